@@ -2,6 +2,7 @@
 // 'so many times' (`specs/Iterate`, which has no code of its own).
 ghost use mathlib.Core.Path.{_≡_};
 ghost use mathlib.Core.Bool.{cond};
+ghost use Prim.Native.Nat.{_-_};
 ghost use Rattle.steps.specs.Bits.{upperByte, lowerByte, word, merge};
 
 // Ruled out: the lower byte; the word undivided.
@@ -30,6 +31,13 @@ pub fn choose(first: bool, a: u8, b: u8) -> u8
     ensures { λ r. ⌜ r ≡ cond first a b ⌝ }
 {
     if first { a } else { b }
+}
+
+// Ruled out: a count that goes below 0; one that stands still.
+pub fn one_less(n: u8) -> u8
+    ensures { λ r. ⌜ r ≡ n - 1 ⌝ }
+{
+    if n == 0 { 0 } else { n - 1 }
 }
 
 // A register word after a write that touches its upper byte, its lower byte, or both.

@@ -1,0 +1,21 @@
+use borrow.Author.Needs.{needs}
+use Rattle.sci.proofs.serial.Sci.asks.Statement.{statement}
+use Rattle.sci.proofs.serial.Sci.asks.Tie as tie
+
+returns : tie.Need-returns
+returns c = rw (c .ilie .ensures, c .before .has5 .ensures, c .before .before .rie .ensures, c .before .before .before .has4 .ensures, c .before .before .before .before .has3 .ensures, c .before .before .before .before .before .tcie .ensures, c .before .before .before .before .before .before .has2 .ensures, c .before .before .before .before .before .before .before .tie .ensures, c .before .before .before .before .before .before .before .before .has .ensures)
+
+pub asks-spec : {M : Type 1} → statement M
+asks-spec =
+    tie.close
+    (tie.spec
+    (λ c κs. search needs)
+    (λ c κs. search needs)
+    (λ c κs. search needs)
+    (λ c κs. search needs)
+    (λ c κs. search needs)
+    (λ c κs. search needs)
+    (λ c κs. search needs)
+    (λ c κs. search needs)
+    (λ c κs. search needs)
+    returns)

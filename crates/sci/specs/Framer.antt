@@ -1,0 +1,180 @@
+-- Document 01, Receiver: where the receiver stands in a frame, and what one sample makes of it, for frames of any number n of data bits.
+use mathlib.Core.Bool.{Bool, true, false, cond, not, _&&_, _||_}
+use Prim.Native.Nat.{ℕ, _+_, _-_, _/_, _%_, _^_}
+use lib.Dec.{eqb, leb}
+use Rattle.sci.specs.Bits.{vote, disagree}
+use Rattle.sci.specs.declared.framer.Framer.{Framer}
+use Rattle.sci.specs.declared.framer.Frame.{Frame}
+
+abbrev pub searching : Framer
+searching =
+    record { framing = false; starting = false; left = 0; rt = 0; first = false; second = false; noise = false; shift = 0 }
+
+-- RT1 of a start bit.
+abbrev pub begun : ℕ → Framer
+begun n =
+    record { framing = true; starting = true; left = n; rt = 1; first = false; second = false; noise = false; shift = 0 }
+
+-- A zero is RT1 if the three samples before it are ones.
+abbrev pub begins : Framer → Bool → Bool → Bool
+begins f three x = not (f .framing) && three && not x
+
+-- Two or more ones at RT3, RT5, RT7 abandon the start.
+abbrev pub abandons : Framer → Bool → Bool
+abandons f x = f .framing && f .starting && eqb (f .rt) 6 && vote (f .first) (f .second) x
+
+-- The frame ends at the stop bit's RT10.
+abbrev pub ends : Framer → Bool
+ends f = f .framing && not (f .starting) && eqb (f .left) 0 && eqb (f .rt) 9
+
+-- What it then brings: its word, whether any bit was noisy, and the stop bit.
+abbrev pub frameOf : Framer → Bool → Frame
+frameOf f x =
+    record {
+      word = f .shift;
+      noise = f .noise || disagree (f .first) (f .second) x;
+      stop = vote (f .first) (f .second) x;
+    }
+
+abbrev pub searched : Bool → Framer → ℕ → Framer
+searched true f n = begun n
+searched false f n = f
+
+abbrev pub atRt : Framer → ℕ → Framer
+atRt f rt =
+    record {
+      framing = f .framing;
+      starting = f .starting;
+      left = f .left;
+      rt = rt;
+      first = f .first;
+      second = f .second;
+      noise = f .noise;
+      shift = f .shift;
+    }
+
+-- The first and the second sample of a vote.
+abbrev pub firstAt : Framer → ℕ → Bool → Framer
+firstAt f rt x =
+    record {
+      framing = f .framing;
+      starting = f .starting;
+      left = f .left;
+      rt = rt;
+      first = x;
+      second = f .second;
+      noise = f .noise;
+      shift = f .shift;
+    }
+
+abbrev pub secondAt : Framer → ℕ → Bool → Framer
+secondAt f rt x =
+    record {
+      framing = f .framing;
+      starting = f .starting;
+      left = f .left;
+      rt = rt;
+      first = f .first;
+      second = x;
+      noise = f .noise;
+      shift = f .shift;
+    }
+
+abbrev pub noiseAt : Framer → ℕ → Bool → Framer
+noiseAt f rt x =
+    record {
+      framing = f .framing;
+      starting = f .starting;
+      left = f .left;
+      rt = rt;
+      first = f .first;
+      second = f .second;
+      noise = f .noise || x;
+      shift = f .shift;
+    }
+
+-- RT7 of the start bit: a single one of three is noise.
+abbrev pub judged : Bool → Framer → Bool → Framer
+judged true f one = searching
+judged false f one = noiseAt f 7 one
+
+-- RT16 of the start bit.
+abbrev pub started : Framer → ℕ → Framer
+started f rt =
+    record {
+      framing = f .framing;
+      starting = false;
+      left = f .left;
+      rt = rt;
+      first = f .first;
+      second = f .second;
+      noise = f .noise;
+      shift = f .shift;
+    }
+
+-- Any one at RT8, RT9, RT10 of the start bit is noise, and the start stands.
+abbrev pub heard : Bool → Framer → ℕ → Bool → Framer
+heard voted f rt x = noiseAt f rt (voted && x)
+
+unfoldable pub startBit : Framer → ℕ → Bool → Framer
+startBit f rt x =
+    cond (eqb rt 3) (firstAt f rt x)
+    (cond (eqb rt 5) (secondAt f rt x)
+    (cond (eqb rt 7) (judged (vote (f .first) (f .second) x) f (f .first || f .second || x))
+    (cond (eqb rt 16) (started f rt) (heard (leb 8 rt && leb rt 10) f rt x))))
+
+-- Low bit first: a new bit comes in at the top of n.
+abbrev pub collected : Bool → ℕ → ℕ → ℕ
+collected bit n w = cond bit (w / 2 + 2 ^ (n - 1)) (w / 2)
+
+-- RT10 of a data bit: the majority of RT8, RT9, RT10; disagreement is noise.
+abbrev pub decided : ℕ → Framer → ℕ → Bool → Framer
+decided n f rt x =
+    record {
+      framing = f .framing;
+      starting = f .starting;
+      left = f .left;
+      rt = rt;
+      first = f .first;
+      second = f .second;
+      noise = f .noise || disagree (f .first) (f .second) x;
+      shift = collected (vote (f .first) (f .second) x) n (f .shift);
+    }
+
+-- RT16 of a data bit.
+abbrev pub passed : Framer → ℕ → Framer
+passed f rt =
+    record {
+      framing = f .framing;
+      starting = f .starting;
+      left = f .left - 1;
+      rt = rt;
+      first = f .first;
+      second = f .second;
+      noise = f .noise;
+      shift = f .shift;
+    }
+
+unfoldable pub dataBit : ℕ → Framer → ℕ → Bool → Framer
+dataBit n f rt x =
+    cond (eqb rt 8) (firstAt f rt x)
+    (cond (eqb rt 9) (secondAt f rt x)
+    (cond (eqb rt 10) (decided n f rt x) (cond (eqb rt 16) (passed f rt) (atRt f rt))))
+
+unfoldable pub stopBit : Framer → ℕ → Bool → Framer
+stopBit f rt x =
+    cond (eqb rt 8) (firstAt f rt x)
+    (cond (eqb rt 9) (secondAt f rt x) (cond (eqb rt 10) searching (atRt f rt)))
+
+abbrev pub inBit : Bool → Bool → ℕ → Framer → ℕ → Bool → Framer
+inBit true stopping n f rt x = startBit f rt x
+inBit false true n f rt x = stopBit f rt x
+inBit false false n f rt x = dataBit n f rt x
+
+-- RT16 is followed by RT1 of the next bit.
+abbrev pub nextRt : Framer → ℕ
+nextRt f = f .rt % 16 + 1
+
+unfoldable pub framed : ℕ → Framer → Bool → Bool → Framer
+framed n f three x =
+    cond (f .framing) (inBit (f .starting) (eqb (f .left) 0) n f (nextRt f) x) (searched (begins f three x) f n)

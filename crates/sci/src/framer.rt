@@ -1,0 +1,245 @@
+// Where the receiver stands in a frame, and what one sample makes of it.
+ghost use mathlib.Core.Path.{_≡_};
+ghost use Rattle.sci.specs.Control.{bitsOf};
+ghost use Rattle.sci.specs.Framer.{searching, begun, begins, abandons, ends, frameOf, searched, judged, heard, startBit, collected, dataBit, stopBit, inBit, framed};
+use crate::bits::disagree;
+use crate::bits::vote;
+use crate::control::bits_of;
+
+pub struct Framer {
+    // A frame is being received; its start bit; else the data bits that are left, this one included, and none in the stop bit.
+    pub framing: bool,
+    pub starting: bool,
+    pub left: u8,
+    // The last RT taken of this bit.
+    pub rt: u8,
+    // The first two samples of a vote.
+    pub first: bool,
+    pub second: bool,
+    pub noise: bool,
+    pub shift: u16,
+}
+
+// What a frame brings at its end.
+pub struct Frame {
+    pub word: u16,
+    pub noise: bool,
+    pub stop: bool,
+}
+
+impl Framer {
+    // Ruled out: a frame under way; noise kept from an abandoned start.
+    pub fn searching() -> Framer
+        ensures { λ r. ⌜ r ≡ searching ⌝ }
+    {
+        Framer {
+            framing: false,
+            starting: false,
+            left: 0,
+            rt: 0,
+            first: false,
+            second: false,
+            noise: false,
+            shift: 0,
+        }
+    }
+
+    // RT1 of the start bit of a frame of n data bits.
+    fn begun(n: u8) -> Framer
+        ensures { λ r. ⌜ r ≡ begun n ⌝ }
+    {
+        Framer {
+            framing: true,
+            starting: true,
+            left: n,
+            rt: 1,
+            first: false,
+            second: false,
+            noise: false,
+            shift: 0,
+        }
+    }
+
+    // Whether a sample is RT1 of a start bit; `three` says whether the three samples before it are ones.
+    // Ruled out: a start after two ones; a start inside a frame.
+    pub fn begins(self, three: bool, x: bool) -> bool
+        ensures { λ r. ⌜ r ≡ begins self three x ⌝ }
+    {
+        !self.framing & three & !x
+    }
+
+    // Whether a sample is RT7 of a start bit with two or more ones at RT3, RT5 and RT7.
+    // Ruled out: a start abandoned for a single one; one kept with ones at RT3 and RT5.
+    pub fn abandons(self, x: bool) -> bool
+        ensures { λ r. ⌜ r ≡ abandons self x ⌝ }
+    {
+        self.framing & self.starting & (self.rt == 6) & vote(self.first, self.second, x)
+    }
+
+    // Whether a sample is RT10 of the stop bit.
+    // Ruled out: an end at RT16; an end at the last data bit.
+    pub fn ends(self) -> bool
+        ensures { λ r. ⌜ r ≡ ends self ⌝ }
+    {
+        self.framing & !self.starting & (self.left == 0) & (self.rt == 9)
+    }
+
+    // What the frame brings, if it ends with this sample.
+    // Ruled out: the stop bit left out of the noise; the stop bit as its last sample alone.
+    pub fn frame(self, x: bool) -> Frame
+        ensures { λ r. ⌜ r ≡ frameOf self x ⌝ }
+    {
+        Frame {
+            word: self.shift,
+            noise: self.noise | disagree(self.first, self.second, x),
+            stop: vote(self.first, self.second, x),
+        }
+    }
+
+    fn searched(self, begins: bool, n: u8) -> Framer
+        ensures { λ r. ⌜ r ≡ searched begins self n ⌝ }
+    {
+        if begins { Framer::begun(n) } else { self }
+    }
+
+    fn judged(mut self, abandoned: bool, one: bool) -> Framer
+        ensures { λ r. ⌜ r ≡ judged abandoned self one ⌝ }
+    {
+        if abandoned {
+            return Framer::searching();
+        }
+        self.rt = 7;
+        self.noise = self.noise | one;
+        self
+    }
+
+    // Any one at RT8, RT9, RT10 of the start bit is noise.
+    fn heard(mut self, voted: bool, rt: u8, x: bool) -> Framer
+        ensures { λ r. ⌜ r ≡ heard voted self rt x ⌝ }
+    {
+        self.rt = rt;
+        self.noise = self.noise | (voted & x);
+        self
+    }
+
+    // RT rt of the start bit.
+    fn start_bit(mut self, rt: u8, x: bool) -> Framer
+        ensures { λ r. ⌜ r ≡ startBit self rt x ⌝ }
+    {
+        match rt {
+            3 => {
+                self.rt = rt;
+                self.first = x;
+                self
+            }
+            5 => {
+                self.rt = rt;
+                self.second = x;
+                self
+            }
+            7 => self.judged(
+                vote(self.first, self.second, x),
+                self.first | self.second | x,
+            ),
+            16 => {
+                self.rt = rt;
+                self.starting = false;
+                self
+            }
+            _ => self.heard((8 <= rt) & (rt <= 10), rt, x),
+        }
+    }
+
+    // RT rt of a data bit.
+    fn data_bit(mut self, rt: u8, x: bool, m: bool) -> Framer
+        ensures { λ r. ⌜ r ≡ dataBit (bitsOf m) self rt x ⌝ }
+    {
+        match rt {
+            8 => {
+                self.rt = rt;
+                self.first = x;
+                self
+            }
+            9 => {
+                self.rt = rt;
+                self.second = x;
+                self
+            }
+            10 => {
+                self.rt = rt;
+                self.noise = self.noise | disagree(self.first, self.second, x);
+                self.shift = collected(vote(self.first, self.second, x), m, self.shift);
+                self
+            }
+            16 => {
+                self.rt = rt;
+                self.left = steps::one_less(self.left);
+                self
+            }
+            _ => {
+                self.rt = rt;
+                self
+            }
+        }
+    }
+
+    // RT rt of the stop bit.
+    fn stop_bit(mut self, rt: u8, x: bool) -> Framer
+        ensures { λ r. ⌜ r ≡ stopBit self rt x ⌝ }
+    {
+        match rt {
+            8 => {
+                self.rt = rt;
+                self.first = x;
+                self
+            }
+            9 => {
+                self.rt = rt;
+                self.second = x;
+                self
+            }
+            10 => Framer::searching(),
+            _ => {
+                self.rt = rt;
+                self
+            }
+        }
+    }
+
+    fn in_bit(self, starting: bool, stopping: bool, rt: u8, x: bool, m: bool) -> Framer
+        ensures { λ r. ⌜ r ≡ inBit starting stopping (bitsOf m) self rt x ⌝ }
+    {
+        if starting {
+            self.start_bit(rt, x)
+        } else {
+            if stopping {
+                self.stop_bit(rt, x)
+            } else {
+                self.data_bit(rt, x, m)
+            }
+        }
+    }
+
+    // One sample. RT16 is followed by RT1 of the next bit.
+    // Ruled out: sampling points that move inside a frame; a search that goes on only at RT16.
+    pub fn framed(self, three: bool, x: bool, m: bool) -> Framer
+        ensures { λ r. ⌜ r ≡ framed (bitsOf m) self three x ⌝ }
+    {
+        if self.framing {
+            self.in_bit(self.starting, self.left == 0, self.rt % 16 + 1, x, m)
+        } else {
+            self.searched(self.begins(three, x), bits_of(m))
+        }
+    }
+}
+
+// The bits collected, low bit first, with one more.
+fn collected(bit: bool, m: bool, shift: u16) -> u16
+    ensures { λ r. ⌜ r ≡ collected bit (bitsOf m) shift ⌝ }
+{
+    if bit {
+        if m { shift / 2 + 256 } else { shift / 2 + 128 }
+    } else {
+        shift / 2
+    }
+}

@@ -1,0 +1,329 @@
+// The serial half as one state: reset, clocks, the accesses to its registers, TXD and the request.
+ghost use mathlib.Core.Path.{_≡_};
+ghost use Prim.Native.Nat.{_+_, _%_, min};
+ghost use Rattle.sci.specs.Control.{sccr0Bits};
+ghost use Rattle.sci.specs.Serial.{resetSci, active, due, heard, sampled, counted, prescaled, clocked, sccr1Word, withStatus, statusRead, dataRead, loaded, dataWritten, withSccr0, sccr0Set, wroteSccr0, stopped, withSccr1, wroteSccr1, sccr0Guarded, sccr1Guarded, txdDriven, txd, asks};
+use crate::control;
+use crate::flags::Flags;
+use crate::framer::Framer;
+use crate::receiver::Receiver;
+use crate::status::Status;
+use crate::transmitter::Transmitter;
+
+pub struct Sci {
+    // SCCR0, and SCCR1 without RWU, which the receiver keeps.
+    pub sccr0: u16,
+    pub sccr1: u16,
+    pub status: Status,
+    // Clocks since the last sample.
+    pub prescaler: u16,
+    pub receiver: Receiver,
+    pub transmitter: Transmitter,
+}
+
+impl Sci {
+    // Ruled out: TDRE or TC clear; SCBR other than 4.
+    pub fn reset() -> Sci
+        ensures { λ r. ⌜ r ≡ resetSci ⌝ }
+    {
+        Sci {
+            sccr0: 4,
+            sccr1: 0,
+            status: Status {
+                flags: Flags::TRANSMIT,
+                seen: Flags::NONE,
+            },
+            prescaler: 0,
+            receiver: Receiver {
+                framer: Framer::searching(),
+                last1: false,
+                last2: false,
+                last3: false,
+                idle: 0,
+                since: false,
+                asleep: false,
+                scdr: 0,
+            },
+            transmitter: Transmitter {
+                scdr: 0,
+                preamble: false,
+                shift: 0,
+                left: 0,
+            },
+        }
+    }
+
+    // TE or RE is set, or a frame or preamble runs: the prescaler runs, and the settings are guarded.
+    // Ruled out: RE left out; a frame that still runs after TE fell left out.
+    pub fn active(self) -> bool
+        ensures { λ r. ⌜ r ≡ active self ⌝ }
+    {
+        let transmitter = self.transmitter;
+        control::te(self.sccr1) | control::re(self.sccr1) | transmitter.runs()
+    }
+
+    // Whether this clock brings a sample, where the prescaler runs.
+    fn due(self) -> bool
+        ensures { λ r. ⌜ r ≡ due self ⌝ }
+    {
+        let period = 2 * (control::scbr(self.sccr0) as u32);
+        (period != 0) & (period <= (self.prescaler as u32) + 1)
+    }
+
+    fn heard(self, re: bool, x: bool) -> Sci
+        ensures { λ r. ⌜ r ≡ heard re self x ⌝ }
+    {
+        if re {
+            let receiver = self.receiver;
+            let status = self.status;
+            let received = receiver.sample(status, self.sccr1, x);
+            let after = received.receiver;
+            let flags = received.status;
+            let mut next = self;
+            next.receiver = after;
+            next.status = flags;
+            next
+        } else {
+            self
+        }
+    }
+
+    // One sample: transmitter before receiver.
+    // Ruled out: a receiver that samples with RE clear; a transmitter that stands still.
+    pub fn sample(self, x: bool) -> Sci
+        ensures { λ r. ⌜ r ≡ sampled self x ⌝ }
+    {
+        let transmitter = self.transmitter;
+        let status = self.status;
+        let sent = transmitter.sample(status, self.sccr1);
+        let after = sent.transmitter;
+        let flags = sent.status;
+        let mut next = self;
+        next.prescaler = 0;
+        next.transmitter = after;
+        next.status = flags;
+        next.heard(control::re(self.sccr1), x)
+    }
+
+    fn counted(mut self) -> Sci
+        ensures { λ r. ⌜ r ≡ counted self ⌝ }
+    {
+        self.prescaler = one_more(self.prescaler);
+        self
+    }
+
+    fn prescaled(self, due: bool, x: bool) -> Sci
+        ensures { λ r. ⌜ r ≡ prescaled due self x ⌝ }
+    {
+        if due { self.sample(x) } else { self.counted() }
+    }
+
+    // One system clock, with the level on RXD.
+    // Ruled out: a sample every SCBR clocks; a prescaler that runs with TE and RE clear and the shifter free.
+    pub fn clock(self, x: bool) -> Sci
+        ensures { λ r. ⌜ r ≡ clocked self x ⌝ }
+    {
+        if self.active() {
+            self.prescaled(self.due(), x)
+        } else {
+            self
+        }
+    }
+
+    // SCCR0 as it is read.
+    // Ruled out: bits 15:13 read; the prescaler's count read.
+    pub fn sccr0(self) -> u16
+        ensures { λ r. ⌜ r ≡ sccr0Bits (self .sccr0) ⌝ }
+    {
+        control::sccr0_bits(self.sccr0)
+    }
+
+    // SCCR1 as it is read.
+    // Ruled out: RWU read as zero while asleep; LOOPS read as one.
+    pub fn sccr1(self) -> u16
+        ensures { λ r. ⌜ r ≡ sccr1Word self ⌝ }
+    {
+        let receiver = self.receiver;
+        let kept = control::sccr1_bits(self.sccr1);
+        if receiver.asleep { kept + 2 } else { kept }
+    }
+
+    // SCSR as it is read.
+    // Ruled out: the marks instead of the flags; TDRE cut off.
+    pub fn scsr(self) -> u16
+        ensures { λ r. ⌜ r ≡ self .status .flags .bits % 512 ⌝ }
+    {
+        let status = self.status;
+        let flags = status.flags;
+        flags.bits % 512
+    }
+
+    // SCDR as it is read.
+    // Ruled out: the data register of the transmitter; bit 8 cut off.
+    pub fn scdr(self) -> u16
+        ensures { λ r. ⌜ r ≡ self .receiver .scdr % 512 ⌝ }
+    {
+        let receiver = self.receiver;
+        receiver.scdr % 512
+    }
+
+    fn with_status(mut self, s: Status) -> Sci
+        ensures { λ r. ⌜ r ≡ withStatus self s ⌝ }
+    {
+        self.status = s;
+        self
+    }
+
+    // A read of either byte of SCSR.
+    // Ruled out: a read that marks nothing; one that clears a flag.
+    pub fn status_read(self) -> Sci
+        ensures { λ r. ⌜ r ≡ statusRead self ⌝ }
+    {
+        let status = self.status;
+        self.with_status(status.mark_seen())
+    }
+
+    // A read of SCDR's low byte or word.
+    // Ruled out: RDRF falling without a status read that saw it; TDRE falling.
+    pub fn data_read(self) -> Sci
+        ensures { λ r. ⌜ r ≡ dataRead self ⌝ }
+    {
+        let status = self.status;
+        self.with_status(status.fall_seen(Flags::RECEIVE))
+    }
+
+    fn loaded(mut self, v: u16, upper: bool) -> Sci
+        ensures { λ r. ⌜ r ≡ loaded self v upper ⌝ }
+    {
+        let status = self.status;
+        let mut transmitter = self.transmitter;
+        transmitter.scdr = steps::merge(transmitter.scdr, v, upper, true) % 512;
+        self.transmitter = transmitter;
+        self.with_status(status.fall_seen(Flags::TRANSMIT))
+    }
+
+    // A write of SCDR's bytes. A low-byte write keeps bit 8; the upper byte alone does nothing.
+    // Ruled out: the upper byte alone stored; TDRE falling without a status read that saw it.
+    pub fn data_write(self, v: u16, upper: bool, lower: bool) -> Sci
+        ensures { λ r. ⌜ r ≡ dataWritten lower self v upper ⌝ }
+    {
+        if lower { self.loaded(v, upper) } else { self }
+    }
+
+    fn with_sccr0(mut self, v: u16) -> Sci
+        ensures { λ r. ⌜ r ≡ withSccr0 self v ⌝ }
+    {
+        self.sccr0 = v;
+        self.prescaler = 0;
+        self
+    }
+
+    fn sccr0_set(self, same: bool, v: u16) -> Sci
+        ensures { λ r. ⌜ r ≡ sccr0Set same self v ⌝ }
+    {
+        if same { self } else { self.with_sccr0(v) }
+    }
+
+    // A write of SCCR0's bytes: a changed SCCR0 restarts the prescaler.
+    // Ruled out: a restart by the same value; bits 15:13 kept.
+    pub fn write_sccr0(self, v: u16, upper: bool, lower: bool) -> Sci
+        ensures { λ r. ⌜ r ≡ wroteSccr0 self v upper lower ⌝ }
+    {
+        let new = control::sccr0_bits(steps::merge(self.sccr0, v, upper, lower));
+        self.sccr0_set(new == self.sccr0, new)
+    }
+
+    // RE clear puts the receiver in its start state, and RAF falls.
+    fn stopped(mut self, re: bool) -> Sci
+        ensures { λ r. ⌜ r ≡ stopped re self ⌝ }
+    {
+        if re {
+            self
+        } else {
+            let receiver = self.receiver;
+            let status = self.status;
+            let start = receiver.start_state();
+            self.receiver = start;
+            self.with_status(status.fall(Flags::RAF))
+        }
+    }
+
+    fn with_sccr1(mut self, v: u16) -> Sci
+        ensures { λ r. ⌜ r ≡ withSccr1 self v ⌝ }
+    {
+        let mut receiver = self.receiver;
+        receiver.asleep = control::rwu(v);
+        let mut transmitter = self.transmitter;
+        transmitter.preamble = control::te(v) & (transmitter.preamble | !control::te(self.sccr1));
+        self.receiver = receiver;
+        self.transmitter = transmitter;
+        self.sccr1 = control::sccr1_bits(v);
+        self
+    }
+
+    // A write of SCCR1's bytes. TE rising queues a preamble; TE falling forgets it.
+    // Ruled out: a preamble for TE written one while one; a frame under way in a receiver with RE clear.
+    pub fn write_sccr1(self, v: u16, upper: bool, lower: bool) -> Sci
+        ensures { λ r. ⌜ r ≡ wroteSccr1 self v upper lower ⌝ }
+    {
+        let new = steps::merge(self.sccr1(), v, upper, lower);
+        let next = self.with_sccr1(new);
+        next.stopped(control::re(new))
+    }
+
+    // Whether a write of SCCR0's bytes changes it while it is guarded (refusal 4).
+    // Ruled out: the same value refused; a change let through while RE is set.
+    pub fn sccr0_guarded(self, v: u16, upper: bool, lower: bool) -> bool
+        ensures { λ r. ⌜ r ≡ sccr0Guarded self v upper lower ⌝ }
+    {
+        let new = steps::merge(self.sccr0, v, upper, lower);
+        self.active() & (control::sccr0_bits(new) != control::sccr0_bits(self.sccr0))
+    }
+
+    // Whether a write of SCCR1's bytes changes ILT, PT, PE, M or WAKE while they are guarded (refusal 4).
+    // Ruled out: a change of TIE refused; a change of M let through while TE is set.
+    pub fn sccr1_guarded(self, v: u16, upper: bool, lower: bool) -> bool
+        ensures { λ r. ⌜ r ≡ sccr1Guarded self v upper lower ⌝ }
+    {
+        let new = steps::merge(self.sccr1, v, upper, lower);
+        self.active() & (control::settings(new) != control::settings(self.sccr1))
+    }
+
+    // Whether the transmitter drives TXD.
+    // Ruled out: TXD let go in the middle of a frame; driven by RE.
+    pub fn txd_driven(self) -> bool
+        ensures { λ r. ⌜ r ≡ txdDriven self ⌝ }
+    {
+        let transmitter = self.transmitter;
+        control::te(self.sccr1) | transmitter.runs()
+    }
+
+    // The level that the transmitter gives TXD.
+    // Ruled out: a rest at zero; the level turned round.
+    pub fn txd(self) -> bool
+        ensures { λ r. ⌜ r ≡ txd self ⌝ }
+    {
+        let transmitter = self.transmitter;
+        transmitter.level()
+    }
+
+    // Whether SCI asks for an interrupt.
+    // Ruled out: a request masked by RWU; OR that needs RDRF.
+    pub fn asks(self) -> bool
+        ensures { λ r. ⌜ r ≡ asks self ⌝ }
+    {
+        let s = self.status;
+        let c = self.sccr1;
+        (s.has(Flags::TDRE) & control::tie(c))
+            | (s.has(Flags::TC) & control::tcie(c))
+            | ((s.has(Flags::RDRF) | s.has(Flags::OR)) & control::rie(c))
+            | (s.has(Flags::IDLE) & control::ilie(c))
+    }
+}
+
+// One clock more; the count stops at its largest value, which no SCBR leaves it reach.
+fn one_more(n: u16) -> u16
+    ensures { λ r. ⌜ r ≡ min 65535 (n + 1) ⌝ }
+{
+    if n < 65535 { n + 1 } else { 65535 }
+}

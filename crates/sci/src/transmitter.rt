@@ -1,0 +1,139 @@
+// The transmitter: one sample at a time, with the flags that it raises.
+ghost use mathlib.Core.Path.{_≡_};
+ghost use Rattle.sci.specs.Control.{bitsOf};
+ghost use Rattle.sci.specs.Transmitter.{runs, level, withParity, dataSent, frameBits, preambleBits, newLeft, newShift, passed, ends, free, beginsPreamble, beginsFrame, sent};
+use crate::bits::parity_bit;
+use crate::control;
+use crate::flags::Flags;
+use crate::status::Status;
+
+pub struct Transmitter {
+    // SCDR as it is written: the data register, nine bits.
+    pub scdr: u16,
+    // A preamble is queued.
+    pub preamble: bool,
+    // The bits of the frame or preamble that runs, the one on TXD lowest, and the samples that are left of it: none where the shifter is
+    // free.
+    pub shift: u16,
+    pub left: u8,
+}
+
+// The transmitter and the status flags after a sample.
+pub struct Sent {
+    pub transmitter: Transmitter,
+    pub status: Status,
+}
+
+// PE replaces the top data bit.
+fn with_parity(m: bool, pt: bool, w: u16) -> u16
+    ensures { λ r. ⌜ r ≡ withParity (bitsOf m) pt w ⌝ }
+{
+    if m {
+        if parity_bit(pt, w % 256) {
+            w % 256 + 256
+        } else {
+            w % 256
+        }
+    } else {
+        if parity_bit(pt, w % 128) {
+            w % 128 + 128
+        } else {
+            w % 128
+        }
+    }
+}
+
+// The data bits as they are sent.
+fn data_sent(m: bool, pe: bool, pt: bool, w: u16) -> u16
+    ensures { λ r. ⌜ r ≡ dataSent (bitsOf m) pe pt w ⌝ }
+{
+    if pe { with_parity(m, pt, w) } else { w }
+}
+
+// A frame: start bit, data bits, stop bit, low bit first.
+fn frame_bits(m: bool, w: u16) -> u16
+    ensures { λ r. ⌜ r ≡ frameBits (bitsOf m) w ⌝ }
+{
+    if m {
+        1024 + 2 * (w % 512)
+    } else {
+        512 + 2 * (w % 256)
+    }
+}
+
+// 10 or 11 ones.
+fn preamble_bits(m: bool) -> u16
+    ensures { λ r. ⌜ r ≡ preambleBits (bitsOf m) ⌝ }
+{
+    if m { 2047 } else { 1023 }
+}
+
+fn new_left(begins: bool, m: bool, left: u8) -> u8
+    ensures { λ r. ⌜ r ≡ newLeft begins (bitsOf m) left ⌝ }
+{
+    if begins {
+        control::frame_samples(m)
+    } else {
+        steps::one_less(left)
+    }
+}
+
+// The bit on TXD gives way to the next one when its 16 samples are over.
+fn passed(over: bool, shift: u16) -> u16
+    ensures { λ r. ⌜ r ≡ passed over shift ⌝ }
+{
+    if over { shift / 2 } else { shift }
+}
+
+fn new_shift(preamble: bool, frame: bool, ones: u16, bits: u16, rest: u16) -> u16
+    ensures { λ r. ⌜ r ≡ newShift preamble frame ones bits rest ⌝ }
+{
+    if preamble {
+        ones
+    } else {
+        if frame { bits } else { rest }
+    }
+}
+
+impl Transmitter {
+    // A frame or preamble runs.
+    // Ruled out: never; also after its last sample.
+    pub fn runs(self) -> bool
+        ensures { λ r. ⌜ r ≡ runs self ⌝ }
+    {
+        self.left != 0
+    }
+
+    // The level that the transmitter gives TXD: it rests at one.
+    // Ruled out: a rest at zero; the highest bit first.
+    pub fn level(self) -> bool
+        ensures { λ r. ⌜ r ≡ level self ⌝ }
+    {
+        !self.runs() | (self.shift % 2 == 1)
+    }
+
+    // One sample: what runs ends; what waits begins, a preamble before data.
+    // Ruled out: TDRE not raised at a frame's start; data sent before the preamble.
+    pub fn sample(self, s: Status, sccr1: u16) -> Sent
+        ensures { λ r. ⌜ r ≡ sent self s sccr1 ⌝ }
+    {
+        let m = control::m(sccr1);
+        let empty = s.has(Flags::TDRE);
+        let free = control::te(sccr1) & (self.left <= 1);
+        let preamble = free & self.preamble;
+        let frame = free & !self.preamble & !empty;
+        let data = data_sent(m, control::pe(sccr1), control::pt(sccr1), self.scdr);
+        let left = new_left(preamble | frame, m, self.left);
+        let rest = passed(left % 16 == 0, self.shift);
+        let ended = s.raise_if((self.left == 1) & empty, Flags::TC);
+        Sent {
+            transmitter: Transmitter {
+                scdr: self.scdr,
+                preamble: self.preamble & !preamble,
+                shift: new_shift(preamble, frame, preamble_bits(m), frame_bits(m, data), rest),
+                left,
+            },
+            status: ended.raise_if(frame, Flags::TDRE),
+        }
+    }
+}
