@@ -1,0 +1,5 @@
+pub mod Fields
+pub mod Registers
+pub mod Ram
+pub mod Queue
+pub mod Outputs

@@ -1,0 +1,102 @@
+// Fields of the queue's registers and of a command byte, and what they mean in bits and clocks.
+ghost use mathlib.Core.Path.{_≡_};
+ghost use Rattle.qspi.specs.Fields.{mstr, bitsField, cpol, cpha, spbr, spe, dsckl, dtl, spifie, wren, wrto, endqp, newqp, hmie, halt, cont, bitse, dt, dsck, zeroMeans, bitsOf, preDelay, delayAfter};
+
+// Ruled out: another bit; the bit inverted.
+pub fn mstr(spcr0: u16) -> bool
+    ensures { λ r. ⌜ r ≡ mstr spcr0 ⌝ }
+{
+    spcr0 / 32768 % 2 == 1
+}
+
+// Ruled out: CPHA's bit; always false.
+pub fn cpol(spcr0: u16) -> bool
+    ensures { λ r. ⌜ r ≡ cpol spcr0 ⌝ }
+{
+    spcr0 / 512 % 2 == 1
+}
+
+// Ruled out: CPOL's bit; always true, as after reset.
+pub fn cpha(spcr0: u16) -> bool
+    ensures { λ r. ⌜ r ≡ cpha spcr0 ⌝ }
+{
+    spcr0 / 256 % 2 == 1
+}
+
+// Ruled out: the upper byte; seven bits of it.
+pub fn spbr(spcr0: u16) -> u16
+    ensures { λ r. ⌜ r ≡ spbr spcr0 ⌝ }
+{
+    spcr0 % 256
+}
+
+// Ruled out: another bit; the bit inverted.
+pub fn spe(spcr1: u16) -> bool
+    ensures { λ r. ⌜ r ≡ spe spcr1 ⌝ }
+{
+    spcr1 / 32768 % 2 == 1
+}
+
+// Ruled out: another bit; the bit inverted.
+pub fn wren(spcr2: u16) -> bool
+    ensures { λ r. ⌜ r ≡ wren spcr2 ⌝ }
+{
+    spcr2 / 16384 % 2 == 1
+}
+
+// Ruled out: another bit; the bit inverted.
+pub fn halt(spcr3: u8) -> bool
+    ensures { λ r. ⌜ r ≡ halt spcr3 ⌝ }
+{
+    spcr3 % 2 == 1
+}
+
+// Ruled out: another bit; the bit inverted.
+pub fn cont(command: u8) -> bool
+    ensures { λ r. ⌜ r ≡ cont command ⌝ }
+{
+    command / 128 % 2 == 1
+}
+
+// A field of which 0 means another number.
+fn zero_means(other: u16, x: u16) -> u16
+    ensures { λ r. ⌜ r ≡ zeroMeans other x ⌝ }
+{
+    if x == 0 { other } else { x }
+}
+
+// Bits n of an entry.
+// Ruled out: BITS without BITSE; 0 as none; 8 always.
+pub fn bits_of(spcr0: u16, command: u8) -> u16
+    ensures { λ r. ⌜ r ≡ bitsOf spcr0 command ⌝ }
+{
+    if command / 64 % 2 == 1 {
+        zero_means(16, spcr0 / 1024 % 16)
+    } else {
+        8
+    }
+}
+
+// Pre-delay p in clocks.
+// Ruled out: DSCKL without DSCK; 0 as no delay; 1 as 2.
+pub fn pre_delay(spcr0: u16, spcr1: u16, command: u8) -> u16
+    ensures { λ r. ⌜ r ≡ preDelay spcr0 spcr1 command ⌝ }
+{
+    if command / 16 % 2 == 1 {
+        zero_means(128, spcr1 / 256 % 128)
+    } else {
+        spcr0 % 256
+    }
+}
+
+// Clocks from edge 2n to the next clock 1.
+// Ruled out: DTL without DT; 0 as no delay; 16 or 18 clocks.
+pub fn delay_after(spcr1: u16, command: u8) -> u16
+    ensures { λ r. ⌜ r ≡ delayAfter spcr1 command ⌝ }
+{
+    if command / 32 % 2 == 1 {
+        zero_means(8192, 32 * (spcr1 % 256))
+    } else {
+        17
+    }
+}

@@ -1,0 +1,52 @@
+// What the queue puts on SCK, MOSI and the four PCS, and whether it asks for an interrupt.
+ghost use mathlib.Core.Path.{_≡_};
+ghost use Rattle.qspi.specs.Outputs.{enabled, sck, pcs, asks};
+use crate::Qspi;
+use crate::fields::cpol;
+use crate::fields::spe;
+
+impl Qspi {
+    // Ruled out: always true; the bit inverted.
+    pub fn enabled(self) -> bool
+        ensures { λ r. ⌜ r ≡ enabled self ⌝ }
+    {
+        spe(self.spcr1)
+    }
+
+    // Ruled out: resting at zero with CPOL set; turning at every second edge.
+    pub fn sck(self) -> bool
+        ensures { λ r. ⌜ r ≡ sck self ⌝ }
+    {
+        if self.edges % 2 == 1 {
+            !cpol(self.spcr0)
+        } else {
+            cpol(self.spcr0)
+        }
+    }
+
+    // Ruled out: the bit inverted; always false.
+    pub fn mosi(self) -> bool
+        ensures { λ r. ⌜ r ≡ self .mosi ⌝ }
+    {
+        self.mosi
+    }
+
+    // Ruled out: PORTQS in an entry; the command's value after its end.
+    pub fn pcs(self, portqs: u8) -> u8
+        ensures { λ r. ⌜ r ≡ pcs self portqs ⌝ }
+    {
+        if self.selecting {
+            self.command % 16
+        } else {
+            portqs / 8 % 16
+        }
+    }
+
+    // Ruled out: the register's SPIFIE; MODF without HMIE.
+    pub fn asks(self) -> bool
+        ensures { λ r. ⌜ r ≡ asks self ⌝ }
+    {
+        (self.spif & (self.working / 32768 % 2 == 1))
+            | ((self.modf | self.halta) & (self.spcr3 / 2 % 2 == 1))
+    }
+}
