@@ -1,3 +1,4 @@
+pub mod State
 pub mod Fields
 pub mod Registers
 pub mod Ram

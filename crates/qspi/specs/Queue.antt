@@ -7,6 +7,7 @@ use lib.ListN.{getD, set}
 use Rattle.steps.specs.Bits.{bit, digit}
 use Rattle.qspi.specs.Fields.{mstr, cpha, spbr, spe, wren, wrto, endqp, newqp, halt, cont, bitsOf, preDelay, delayAfter}
 use Rattle.qspi.specs.Registers.{abandoned}
+use Rattle.qspi.specs.State.{withSpcr1, withFlags, withCptqp, withPending, withWorking, withPointer, withPlace, withCount, withSelecting, withTaken, withMosi, withCollected, withReceive}
 use Rattle.qspi.specs.declared.Qspi.{Qspi}
 use Rattle.qspi.specs.declared.Pins.{Pins}
 
@@ -22,9 +23,13 @@ bitOut w n i = bit ((n - 1 - i) % 16) w
 unfoldable pub mosiAfter : Bool → ℕ → ℕ → ℕ → Bool → Bool
 mosiAfter cpha n w j mosi = cond (changes cpha j && ltb (j / 2) n) (bitOut w n (j / 2)) mosi
 
+-- A bit read goes in below the bits before it.
+abbrev pub pushed : ℕ → Bool → ℕ
+pushed collected miso = collected % 32768 * 2 + digit miso
+
 -- The bits read so far after edge j.
 unfoldable pub collectedAfter : Bool → ℕ → Bool → ℕ → ℕ
-collectedAfter cpha j miso collected = cond (changes (not cpha) j) (collected % 32768 * 2 + digit miso) collected
+collectedAfter cpha j miso collected = cond (changes (not cpha) j) (pushed collected miso) collected
 
 -- Where clock 1 takes the entry: a pending NEWQP wins.
 abbrev pub entryAt : Qspi → ℕ
@@ -33,238 +38,53 @@ entryAt q = cond (q .pending) (newqp (q .spcr2)) (q .pointer % 16)
 -- Clock 1 takes the working copy, the command and the transmit word.
 abbrev pub loadedFrom : ℕ → Qspi → Qspi
 loadedFrom at q =
-    record {
-      spcr0 = q .spcr0;
-      spcr1 = q .spcr1;
-      spcr2 = q .spcr2;
-      spcr3 = q .spcr3;
-      spif = q .spif;
-      modf = q .modf;
-      halta = q .halta;
-      spif_seen = q .spif_seen;
-      modf_seen = q .modf_seen;
-      halta_seen = q .halta_seen;
-      cptqp = q .cptqp;
-      working = q .spcr2;
-      pointer = at;
-      pending = false;
-      playing = q .playing;
-      delaying = q .delaying;
-      halted = q .halted;
-      left = q .left;
-      edges = q .edges;
-      command = getD (q .commands) at 0;
-      shift = getD (q .transmit) at 0;
-      mosi = q .mosi;
-      collected = q .collected;
-      selecting = q .selecting;
-      receive = q .receive;
-      transmit = q .transmit;
-      commands = q .commands;
-    }
+    withTaken (withPending (withPointer (withWorking q (q .spcr2)) at) false) (getD (q .commands) at 0)
+    (getD (q .transmit) at 0)
 
 abbrev pub loaded : Qspi → Qspi
 loaded q = loadedFrom (entryAt q) q
 
+-- MOSI of the entry that runs, after edge j.
+abbrev pub mosiAt : Qspi → ℕ → Bool
+mosiAt q j = mosiAfter (cpha (q .spcr0)) (bitsOf (q .spcr0) (q .command)) (q .shift) j (q .mosi)
+
 -- The pre-delay begins; the first bit is out for CPHA=0.
 abbrev pub started : Qspi → Qspi
 started q =
-    record {
-      spcr0 = q .spcr0;
-      spcr1 = q .spcr1;
-      spcr2 = q .spcr2;
-      spcr3 = q .spcr3;
-      spif = q .spif;
-      modf = q .modf;
-      halta = q .halta;
-      spif_seen = q .spif_seen;
-      modf_seen = q .modf_seen;
-      halta_seen = q .halta_seen;
-      cptqp = q .cptqp;
-      working = q .working;
-      pointer = q .pointer;
-      pending = q .pending;
-      playing = true;
-      delaying = false;
-      halted = false;
-      left = preDelay (q .spcr0) (q .spcr1) (q .command);
-      edges = 0;
-      command = q .command;
-      shift = q .shift;
-      mosi = mosiAfter (cpha (q .spcr0)) (bitsOf (q .spcr0) (q .command)) (q .shift) 0 (q .mosi);
-      collected = 0;
-      selecting = true;
-      receive = q .receive;
-      transmit = q .transmit;
-      commands = q .commands;
-    }
+    withCollected
+    (withMosi
+    (withSelecting (withCount (withPlace q true false false) (preDelay (q .spcr0) (q .spcr1) (q .command)) 0) true)
+    (mosiAt q 0))
+    0
 
 -- Edge j: MISO read or MOSI changed.
 abbrev pub edgeFallen : ℕ → Bool → Qspi → Qspi
 edgeFallen j miso q =
-    record {
-      spcr0 = q .spcr0;
-      spcr1 = q .spcr1;
-      spcr2 = q .spcr2;
-      spcr3 = q .spcr3;
-      spif = q .spif;
-      modf = q .modf;
-      halta = q .halta;
-      spif_seen = q .spif_seen;
-      modf_seen = q .modf_seen;
-      halta_seen = q .halta_seen;
-      cptqp = q .cptqp;
-      working = q .working;
-      pointer = q .pointer;
-      pending = q .pending;
-      playing = q .playing;
-      delaying = q .delaying;
-      halted = q .halted;
-      left = spbr (q .spcr0);
-      edges = j;
-      command = q .command;
-      shift = q .shift;
-      mosi = mosiAfter (cpha (q .spcr0)) (bitsOf (q .spcr0) (q .command)) (q .shift) j (q .mosi);
-      collected = collectedAfter (cpha (q .spcr0)) j miso (q .collected);
-      selecting = q .selecting;
-      receive = q .receive;
-      transmit = q .transmit;
-      commands = q .commands;
-    }
+    withCollected (withMosi (withCount q (spbr (q .spcr0)) j) (mosiAt q j))
+    (collectedAfter (cpha (q .spcr0)) j miso (q .collected))
 
 -- At edge 2n the receive word is stored and CPTQP set; then the delay.
 abbrev pub stored : Qspi → Qspi
 stored q =
-    record {
-      spcr0 = q .spcr0;
-      spcr1 = q .spcr1;
-      spcr2 = q .spcr2;
-      spcr3 = q .spcr3;
-      spif = q .spif;
-      modf = q .modf;
-      halta = q .halta;
-      spif_seen = q .spif_seen;
-      modf_seen = q .modf_seen;
-      halta_seen = q .halta_seen;
-      cptqp = q .pointer % 16;
-      working = q .working;
-      pointer = q .pointer;
-      pending = q .pending;
-      playing = false;
-      delaying = true;
-      halted = q .halted;
-      left = delayAfter (q .spcr1) (q .command);
-      edges = 0;
-      command = q .command;
-      shift = q .shift;
-      mosi = q .mosi;
-      collected = q .collected;
-      selecting = q .selecting;
-      receive = set (q .receive) (q .pointer % 16) (q .collected);
-      transmit = q .transmit;
-      commands = q .commands;
-    }
+    withCount
+    (withPlace
+    (withReceive (withCptqp q (q .pointer % 16)) (set (q .receive) (q .pointer % 16) (q .collected)))
+    false true false)
+    (delayAfter (q .spcr1) (q .command)) 0
 
 -- The end of the queue without WREN: SPIF rises and SPE falls.
 abbrev pub finished : Qspi → Qspi
-finished q =
-    record {
-      spcr0 = q .spcr0;
-      spcr1 = q .spcr1 % 32768;
-      spcr2 = q .spcr2;
-      spcr3 = q .spcr3;
-      spif = true;
-      modf = q .modf;
-      halta = q .halta;
-      spif_seen = q .spif_seen;
-      modf_seen = q .modf_seen;
-      halta_seen = q .halta_seen;
-      cptqp = q .cptqp;
-      working = q .working;
-      pointer = q .pointer;
-      pending = q .pending;
-      playing = false;
-      delaying = false;
-      halted = false;
-      left = 0;
-      edges = 0;
-      command = q .command;
-      shift = q .shift;
-      mosi = q .mosi;
-      collected = q .collected;
-      selecting = false;
-      receive = q .receive;
-      transmit = q .transmit;
-      commands = q .commands;
-    }
+finished q = abandoned (withFlags (withSpcr1 q (q .spcr1 % 32768)) true (q .modf) (q .halta))
 
 -- With it: SPIF rises and the pointer goes to 0, or NEWQP if WRTO.
 abbrev pub wrapTo : ℕ → ℕ
 wrapTo working = cond (wrto working) (newqp working) 0
 
 abbrev pub wrapped : Qspi → Qspi
-wrapped q =
-    record {
-      spcr0 = q .spcr0;
-      spcr1 = q .spcr1;
-      spcr2 = q .spcr2;
-      spcr3 = q .spcr3;
-      spif = true;
-      modf = q .modf;
-      halta = q .halta;
-      spif_seen = q .spif_seen;
-      modf_seen = q .modf_seen;
-      halta_seen = q .halta_seen;
-      cptqp = q .cptqp;
-      working = q .working;
-      pointer = wrapTo (q .working);
-      pending = q .pending;
-      playing = q .playing;
-      delaying = q .delaying;
-      halted = q .halted;
-      left = q .left;
-      edges = q .edges;
-      command = q .command;
-      shift = q .shift;
-      mosi = q .mosi;
-      collected = q .collected;
-      selecting = q .selecting;
-      receive = q .receive;
-      transmit = q .transmit;
-      commands = q .commands;
-    }
+wrapped q = withPointer (withFlags q true (q .modf) (q .halta)) (wrapTo (q .working))
 
 abbrev pub advanced : Qspi → Qspi
-advanced q =
-    record {
-      spcr0 = q .spcr0;
-      spcr1 = q .spcr1;
-      spcr2 = q .spcr2;
-      spcr3 = q .spcr3;
-      spif = q .spif;
-      modf = q .modf;
-      halta = q .halta;
-      spif_seen = q .spif_seen;
-      modf_seen = q .modf_seen;
-      halta_seen = q .halta_seen;
-      cptqp = q .cptqp;
-      working = q .working;
-      pointer = (q .pointer % 16 + 1) % 16;
-      pending = q .pending;
-      playing = q .playing;
-      delaying = q .delaying;
-      halted = q .halted;
-      left = q .left;
-      edges = q .edges;
-      command = q .command;
-      shift = q .shift;
-      mosi = q .mosi;
-      collected = q .collected;
-      selecting = q .selecting;
-      receive = q .receive;
-      transmit = q .transmit;
-      commands = q .commands;
-    }
+advanced q = withPointer q ((q .pointer % 16 + 1) % 16)
 
 -- After the store: is it the entry at the working ENDQP, and is WREN set?
 abbrev pub followed : Bool → Bool → Qspi → Qspi
@@ -283,111 +103,26 @@ judged false q = q
 unfoldable pub edge : ℕ → Bool → Qspi → Qspi
 edge j miso q = judged (leb (bitsOf (q .spcr0) (q .command) * 2) j) (edgeFallen j miso q)
 
-abbrev pub withLeft : Qspi → ℕ → Qspi
-withLeft q n =
-    record {
-      spcr0 = q .spcr0;
-      spcr1 = q .spcr1;
-      spcr2 = q .spcr2;
-      spcr3 = q .spcr3;
-      spif = q .spif;
-      modf = q .modf;
-      halta = q .halta;
-      spif_seen = q .spif_seen;
-      modf_seen = q .modf_seen;
-      halta_seen = q .halta_seen;
-      cptqp = q .cptqp;
-      working = q .working;
-      pointer = q .pointer;
-      pending = q .pending;
-      playing = q .playing;
-      delaying = q .delaying;
-      halted = q .halted;
-      left = n;
-      edges = q .edges;
-      command = q .command;
-      shift = q .shift;
-      mosi = q .mosi;
-      collected = q .collected;
-      selecting = q .selecting;
-      receive = q .receive;
-      transmit = q .transmit;
-      commands = q .commands;
-    }
-
 -- A clock between clock 1 and edge 2n: an edge falls in it, or none.
 abbrev pub counted : Bool → Bool → Qspi → Qspi
 counted true miso q = edge (q .edges % 32 + 1) miso q
-counted false miso q = withLeft q (q .left - 1)
+counted false miso q = withCount q (q .left - 1) (q .edges)
 
 unfoldable pub playClock : Bool → Qspi → Qspi
 playClock miso q = counted (leb (q .left) 1) miso q
 
 -- A clock of the delay: PCS stay only with CONT.
 abbrev pub inDelay : Qspi → Qspi
-inDelay q =
-    record {
-      spcr0 = q .spcr0;
-      spcr1 = q .spcr1;
-      spcr2 = q .spcr2;
-      spcr3 = q .spcr3;
-      spif = q .spif;
-      modf = q .modf;
-      halta = q .halta;
-      spif_seen = q .spif_seen;
-      modf_seen = q .modf_seen;
-      halta_seen = q .halta_seen;
-      cptqp = q .cptqp;
-      working = q .working;
-      pointer = q .pointer;
-      pending = q .pending;
-      playing = q .playing;
-      delaying = q .delaying;
-      halted = q .halted;
-      left = q .left - 1;
-      edges = q .edges;
-      command = q .command;
-      shift = q .shift;
-      mosi = q .mosi;
-      collected = q .collected;
-      selecting = q .selecting && cont (q .command);
-      receive = q .receive;
-      transmit = q .transmit;
-      commands = q .commands;
-    }
+inDelay q = withSelecting (withCount q (q .left - 1) (q .edges)) (q .selecting && cont (q .command))
 
 -- Its last clock: HALT is asked, HALTA rises with it.
 abbrev pub delayOver : Qspi → Qspi
 delayOver q =
-    record {
-      spcr0 = q .spcr0;
-      spcr1 = q .spcr1;
-      spcr2 = q .spcr2;
-      spcr3 = q .spcr3;
-      spif = q .spif;
-      modf = q .modf;
-      halta = q .halta || halt (q .spcr3);
-      spif_seen = q .spif_seen;
-      modf_seen = q .modf_seen;
-      halta_seen = q .halta_seen;
-      cptqp = q .cptqp;
-      working = q .working;
-      pointer = q .pointer;
-      pending = q .pending;
-      playing = q .playing;
-      delaying = false;
-      halted = halt (q .spcr3);
-      left = 0;
-      edges = q .edges;
-      command = q .command;
-      shift = q .shift;
-      mosi = q .mosi;
-      collected = q .collected;
-      selecting = q .selecting && cont (q .command);
-      receive = q .receive;
-      transmit = q .transmit;
-      commands = q .commands;
-    }
+    withSelecting
+    (withCount
+    (withPlace (withFlags q (q .spif) (q .modf) (q .halta || halt (q .spcr3))) false false (halt (q .spcr3)))
+    0 (q .edges))
+    (q .selecting && cont (q .command))
 
 abbrev pub delayed : Bool → Qspi → Qspi
 delayed true q = delayOver q
@@ -433,36 +168,7 @@ faultNow q pins = (spe (q .spcr1) && mstr (q .spcr0)) && selected pins
 
 -- Mode fault: MODF rises, SPE falls, the entry is abandoned and stores nothing.
 abbrev pub faulted : Bool → Qspi → Qspi
-faulted true q =
-    record {
-      spcr0 = q .spcr0;
-      spcr1 = q .spcr1 % 32768;
-      spcr2 = q .spcr2;
-      spcr3 = q .spcr3;
-      spif = q .spif;
-      modf = true;
-      halta = q .halta;
-      spif_seen = q .spif_seen;
-      modf_seen = q .modf_seen;
-      halta_seen = q .halta_seen;
-      cptqp = q .cptqp;
-      working = q .working;
-      pointer = q .pointer;
-      pending = q .pending;
-      playing = false;
-      delaying = false;
-      halted = false;
-      left = 0;
-      edges = 0;
-      command = q .command;
-      shift = q .shift;
-      mosi = q .mosi;
-      collected = q .collected;
-      selecting = false;
-      receive = q .receive;
-      transmit = q .transmit;
-      commands = q .commands;
-    }
+faulted true q = abandoned (withFlags (withSpcr1 q (q .spcr1 % 32768)) (q .spif) true (q .halta))
 faulted false q = q
 
 -- One system clock: mode fault, then the queue.

@@ -4,6 +4,7 @@ use mathlib.Core.List.{List}
 use Prim.Native.Nat.{ℕ, _+_, _*_, _%_}
 use lib.ListN.{getD, set}
 use Rattle.steps.specs.Bits.{word, merge, upperByte, lowerByte}
+use Rattle.qspi.specs.State.{withReceive, withTransmit, withCommands}
 use Rattle.qspi.specs.declared.Qspi.{Qspi}
 
 abbrev pub receiveWord : Qspi → ℕ → ℕ
@@ -17,100 +18,14 @@ abbrev pub commandWord : Qspi → ℕ → ℕ
 commandWord q i = word (getD (q .commands) (i % 8 * 2) 0) (getD (q .commands) (i % 8 * 2 + 1) 0)
 
 abbrev pub writeReceive : Qspi → ℕ → ℕ → Bool → Bool → Qspi
-writeReceive q i v upper lower =
-    record {
-      spcr0 = q .spcr0;
-      spcr1 = q .spcr1;
-      spcr2 = q .spcr2;
-      spcr3 = q .spcr3;
-      spif = q .spif;
-      modf = q .modf;
-      halta = q .halta;
-      spif_seen = q .spif_seen;
-      modf_seen = q .modf_seen;
-      halta_seen = q .halta_seen;
-      cptqp = q .cptqp;
-      working = q .working;
-      pointer = q .pointer;
-      pending = q .pending;
-      playing = q .playing;
-      delaying = q .delaying;
-      halted = q .halted;
-      left = q .left;
-      edges = q .edges;
-      command = q .command;
-      shift = q .shift;
-      mosi = q .mosi;
-      collected = q .collected;
-      selecting = q .selecting;
-      receive = set (q .receive) (i % 16) (merge (receiveWord q i) v upper lower);
-      transmit = q .transmit;
-      commands = q .commands;
-    }
+writeReceive q i v upper lower = withReceive q (set (q .receive) (i % 16) (merge (receiveWord q i) v upper lower))
 
 abbrev pub writeTransmit : Qspi → ℕ → ℕ → Bool → Bool → Qspi
-writeTransmit q i v upper lower =
-    record {
-      spcr0 = q .spcr0;
-      spcr1 = q .spcr1;
-      spcr2 = q .spcr2;
-      spcr3 = q .spcr3;
-      spif = q .spif;
-      modf = q .modf;
-      halta = q .halta;
-      spif_seen = q .spif_seen;
-      modf_seen = q .modf_seen;
-      halta_seen = q .halta_seen;
-      cptqp = q .cptqp;
-      working = q .working;
-      pointer = q .pointer;
-      pending = q .pending;
-      playing = q .playing;
-      delaying = q .delaying;
-      halted = q .halted;
-      left = q .left;
-      edges = q .edges;
-      command = q .command;
-      shift = q .shift;
-      mosi = q .mosi;
-      collected = q .collected;
-      selecting = q .selecting;
-      receive = q .receive;
-      transmit = set (q .transmit) (i % 16) (merge (transmitWord q i) v upper lower);
-      commands = q .commands;
-    }
+writeTransmit q i v upper lower = withTransmit q (set (q .transmit) (i % 16) (merge (transmitWord q i) v upper lower))
 
-abbrev pub withCommands : Qspi → ℕ → ℕ → Qspi
-withCommands q i w =
-    record {
-      spcr0 = q .spcr0;
-      spcr1 = q .spcr1;
-      spcr2 = q .spcr2;
-      spcr3 = q .spcr3;
-      spif = q .spif;
-      modf = q .modf;
-      halta = q .halta;
-      spif_seen = q .spif_seen;
-      modf_seen = q .modf_seen;
-      halta_seen = q .halta_seen;
-      cptqp = q .cptqp;
-      working = q .working;
-      pointer = q .pointer;
-      pending = q .pending;
-      playing = q .playing;
-      delaying = q .delaying;
-      halted = q .halted;
-      left = q .left;
-      edges = q .edges;
-      command = q .command;
-      shift = q .shift;
-      mosi = q .mosi;
-      collected = q .collected;
-      selecting = q .selecting;
-      receive = q .receive;
-      transmit = q .transmit;
-      commands = set (set (q .commands) (i % 8 * 2) (upperByte w)) (i % 8 * 2 + 1) (lowerByte w);
-    }
+abbrev pub commandsSet : Qspi → ℕ → ℕ → Qspi
+commandsSet q i w =
+    withCommands q (set (set (q .commands) (i % 8 * 2) (upperByte w)) (i % 8 * 2 + 1) (lowerByte w))
 
 abbrev pub writeCommand : Qspi → ℕ → ℕ → Bool → Bool → Qspi
-writeCommand q i v upper lower = withCommands q i (merge (commandWord q i) v upper lower)
+writeCommand q i v upper lower = commandsSet q i (merge (commandWord q i) v upper lower)

@@ -5,6 +5,7 @@ use lib.Dec.{eqb, leb}
 use lib.ListN.{replicate}
 use Rattle.steps.specs.Bits.{bit, digit, word, merge, upperByte}
 use Rattle.qspi.specs.Fields.{mstr, bitsField, spe, newqp}
+use Rattle.qspi.specs.State.{withSpcr0, withSpcr1, withSpcr2, withSpcr3, withFlags, withSeen, withPending, withWorking, withPointer, withPlace, withCount, withSelecting, withMosi}
 use Rattle.qspi.specs.declared.Qspi.{Qspi}
 
 -- SPCR0 0104, SPCR1 0404, all else 0; nothing seen.
@@ -18,9 +19,9 @@ reset =
       spif = false;
       modf = false;
       halta = false;
-      spif_seen = false;
-      modf_seen = false;
-      halta_seen = false;
+      «spif_seen» = false;
+      «modf_seen» = false;
+      «halta_seen» = false;
       cptqp = 0;
       working = 0;
       pointer = 0;
@@ -49,102 +50,15 @@ spcr3Spsr q = word (q .spcr3) (status q)
 
 -- A read touching byte 1F sees every flag then set.
 abbrev pub statusRead : Qspi → Qspi
-statusRead q =
-    record {
-      spcr0 = q .spcr0;
-      spcr1 = q .spcr1;
-      spcr2 = q .spcr2;
-      spcr3 = q .spcr3;
-      spif = q .spif;
-      modf = q .modf;
-      halta = q .halta;
-      spif_seen = q .spif_seen || q .spif;
-      modf_seen = q .modf_seen || q .modf;
-      halta_seen = q .halta_seen || q .halta;
-      cptqp = q .cptqp;
-      working = q .working;
-      pointer = q .pointer;
-      pending = q .pending;
-      playing = q .playing;
-      delaying = q .delaying;
-      halted = q .halted;
-      left = q .left;
-      edges = q .edges;
-      command = q .command;
-      shift = q .shift;
-      mosi = q .mosi;
-      collected = q .collected;
-      selecting = q .selecting;
-      receive = q .receive;
-      transmit = q .transmit;
-      commands = q .commands;
-    }
+statusRead q = withSeen q (q .«spif_seen» || q .spif) (q .«modf_seen» || q .modf) (q .«halta_seen» || q .halta)
 
 -- Start state: no entry runs, and PORTQS shows on the PCS.
 abbrev pub abandoned : Qspi → Qspi
-abandoned q =
-    record {
-      spcr0 = q .spcr0;
-      spcr1 = q .spcr1;
-      spcr2 = q .spcr2;
-      spcr3 = q .spcr3;
-      spif = q .spif;
-      modf = q .modf;
-      halta = q .halta;
-      spif_seen = q .spif_seen;
-      modf_seen = q .modf_seen;
-      halta_seen = q .halta_seen;
-      cptqp = q .cptqp;
-      working = q .working;
-      pointer = q .pointer;
-      pending = q .pending;
-      playing = false;
-      delaying = false;
-      halted = false;
-      left = 0;
-      edges = 0;
-      command = q .command;
-      shift = q .shift;
-      mosi = q .mosi;
-      collected = q .collected;
-      selecting = false;
-      receive = q .receive;
-      transmit = q .transmit;
-      commands = q .commands;
-    }
+abandoned q = withSelecting (withCount (withPlace q false false false) 0 0) false
 
 -- SPE rising: pointer from NEWQP, working copy of SPCR2, MOSI 0 until the first bit.
 abbrev pub risen : Qspi → Qspi
-risen q =
-    record {
-      spcr0 = q .spcr0;
-      spcr1 = q .spcr1;
-      spcr2 = q .spcr2;
-      spcr3 = q .spcr3;
-      spif = q .spif;
-      modf = q .modf;
-      halta = q .halta;
-      spif_seen = q .spif_seen;
-      modf_seen = q .modf_seen;
-      halta_seen = q .halta_seen;
-      cptqp = q .cptqp;
-      working = q .spcr2;
-      pointer = newqp (q .spcr2);
-      pending = q .pending;
-      playing = false;
-      delaying = false;
-      halted = false;
-      left = 0;
-      edges = 0;
-      command = q .command;
-      shift = q .shift;
-      mosi = false;
-      collected = q .collected;
-      selecting = false;
-      receive = q .receive;
-      transmit = q .transmit;
-      commands = q .commands;
-    }
+risen q = abandoned (withMosi (withPointer (withWorking q (q .spcr2)) (newqp (q .spcr2))) false)
 
 -- SPE before and after a write.
 abbrev pub switched : Bool → Bool → Qspi → Qspi
@@ -154,68 +68,7 @@ switched true false q = abandoned q
 switched true true q = q
 
 abbrev pub writeSpcr0 : Qspi → ℕ → Bool → Bool → Qspi
-writeSpcr0 q v upper lower =
-    record {
-      spcr0 = merge (q .spcr0) v upper lower;
-      spcr1 = q .spcr1;
-      spcr2 = q .spcr2;
-      spcr3 = q .spcr3;
-      spif = q .spif;
-      modf = q .modf;
-      halta = q .halta;
-      spif_seen = q .spif_seen;
-      modf_seen = q .modf_seen;
-      halta_seen = q .halta_seen;
-      cptqp = q .cptqp;
-      working = q .working;
-      pointer = q .pointer;
-      pending = q .pending;
-      playing = q .playing;
-      delaying = q .delaying;
-      halted = q .halted;
-      left = q .left;
-      edges = q .edges;
-      command = q .command;
-      shift = q .shift;
-      mosi = q .mosi;
-      collected = q .collected;
-      selecting = q .selecting;
-      receive = q .receive;
-      transmit = q .transmit;
-      commands = q .commands;
-    }
-
-abbrev pub withSpcr1 : Qspi → ℕ → Qspi
-withSpcr1 q w =
-    record {
-      spcr0 = q .spcr0;
-      spcr1 = w;
-      spcr2 = q .spcr2;
-      spcr3 = q .spcr3;
-      spif = q .spif;
-      modf = q .modf;
-      halta = q .halta;
-      spif_seen = q .spif_seen;
-      modf_seen = q .modf_seen;
-      halta_seen = q .halta_seen;
-      cptqp = q .cptqp;
-      working = q .working;
-      pointer = q .pointer;
-      pending = q .pending;
-      playing = q .playing;
-      delaying = q .delaying;
-      halted = q .halted;
-      left = q .left;
-      edges = q .edges;
-      command = q .command;
-      shift = q .shift;
-      mosi = q .mosi;
-      collected = q .collected;
-      selecting = q .selecting;
-      receive = q .receive;
-      transmit = q .transmit;
-      commands = q .commands;
-    }
+writeSpcr0 q v upper lower = withSpcr0 q (merge (q .spcr0) v upper lower)
 
 unfoldable pub writeSpcr1 : Qspi → ℕ → Bool → Bool → Qspi
 writeSpcr1 q v upper lower =
@@ -228,76 +81,22 @@ spcr2Bits w = w / 8192 * 8192 + w / 256 % 16 * 256 + w % 16
 -- A write touching the lower byte touches NEWQP, also with its own value.
 abbrev pub writeSpcr2 : Qspi → ℕ → Bool → Bool → Qspi
 writeSpcr2 q v upper lower =
-    record {
-      spcr0 = q .spcr0;
-      spcr1 = q .spcr1;
-      spcr2 = spcr2Bits (merge (q .spcr2) v upper lower);
-      spcr3 = q .spcr3;
-      spif = q .spif;
-      modf = q .modf;
-      halta = q .halta;
-      spif_seen = q .spif_seen;
-      modf_seen = q .modf_seen;
-      halta_seen = q .halta_seen;
-      cptqp = q .cptqp;
-      working = q .working;
-      pointer = q .pointer;
-      pending = q .pending || lower;
-      playing = q .playing;
-      delaying = q .delaying;
-      halted = q .halted;
-      left = q .left;
-      edges = q .edges;
-      command = q .command;
-      shift = q .shift;
-      mosi = q .mosi;
-      collected = q .collected;
-      selecting = q .selecting;
-      receive = q .receive;
-      transmit = q .transmit;
-      commands = q .commands;
-    }
+    withPending (withSpcr2 q (spcr2Bits (merge (q .spcr2) v upper lower))) (q .pending || lower)
 
 -- A flag falls when a read saw it and a write puts zero there.
 abbrev pub falls : Bool → Bool → Bool → Bool
 falls lower seen one = (lower && seen) && not one
 
-abbrev pub withSpcr3 : Qspi → ℕ → Bool → Bool → Bool → Qspi
-withSpcr3 q w spifFalls modfFalls haltaFalls =
-    record {
-      spcr0 = q .spcr0;
-      spcr1 = q .spcr1;
-      spcr2 = q .spcr2;
-      spcr3 = w;
-      spif = q .spif && not spifFalls;
-      modf = q .modf && not modfFalls;
-      halta = q .halta && not haltaFalls;
-      spif_seen = q .spif_seen && not spifFalls;
-      modf_seen = q .modf_seen && not modfFalls;
-      halta_seen = q .halta_seen && not haltaFalls;
-      cptqp = q .cptqp;
-      working = q .working;
-      pointer = q .pointer;
-      pending = q .pending;
-      playing = q .playing;
-      delaying = q .delaying;
-      halted = q .halted;
-      left = q .left;
-      edges = q .edges;
-      command = q .command;
-      shift = q .shift;
-      mosi = q .mosi;
-      collected = q .collected;
-      selecting = q .selecting;
-      receive = q .receive;
-      transmit = q .transmit;
-      commands = q .commands;
-    }
+-- The flags that fall lose their marks.
+abbrev pub flagsFallen : Qspi → Bool → Bool → Bool → Qspi
+flagsFallen q spif modf halta =
+    withSeen (withFlags q (q .spif && not spif) (q .modf && not modf) (q .halta && not halta)) (q .«spif_seen» && not spif)
+    (q .«modf_seen» && not modf) (q .«halta_seen» && not halta)
 
 abbrev pub writeSpcr3Spsr : Qspi → ℕ → Bool → Bool → Qspi
 writeSpcr3Spsr q v upper lower =
-    withSpcr3 q (cond upper (upperByte v % 8) (q .spcr3)) (falls lower (q .spif_seen) (bit 7 v))
-    (falls lower (q .modf_seen) (bit 6 v)) (falls lower (q .halta_seen) (bit 5 v))
+    flagsFallen (withSpcr3 q (cond upper (upperByte v % 8) (q .spcr3))) (falls lower (q .«spif_seen») (bit 7 v))
+    (falls lower (q .«modf_seen») (bit 6 v)) (falls lower (q .«halta_seen») (bit 5 v))
 
 -- Refusal 3: WOMQ, or BITS 1 to 7.
 abbrev pub spcr0Unmodelled : ℕ → Bool → Bool

@@ -1,6 +1,22 @@
 // Fields of the queue's registers and of a command byte, and what they mean in bits and clocks.
 ghost use mathlib.Core.Path.{_≡_};
+ghost use mathlib.Core.Bool.{cond};
+ghost use Rattle.steps.specs.Bits.{bit};
 ghost use Rattle.qspi.specs.Fields.{mstr, bitsField, cpol, cpha, spbr, spe, dsckl, dtl, spifie, wren, wrto, endqp, newqp, hmie, halt, cont, bitse, dt, dsck, zeroMeans, bitsOf, preDelay, delayAfter};
+
+// Ruled out: the choice the other way round; always the first.
+pub fn choose_word(first: bool, a: u16, b: u16) -> u16
+    ensures { λ r. ⌜ r ≡ cond first a b ⌝ }
+{
+    if first { a } else { b }
+}
+
+// Ruled out: another bit; the bit inverted.
+pub fn bit_0(x: u8) -> bool
+    ensures { λ r. ⌜ r ≡ bit 0 x ⌝ }
+{
+    x % 2 == 1
+}
 
 // Ruled out: another bit; the bit inverted.
 pub fn mstr(spcr0: u16) -> bool
@@ -48,7 +64,7 @@ pub fn wren(spcr2: u16) -> bool
 pub fn halt(spcr3: u8) -> bool
     ensures { λ r. ⌜ r ≡ halt spcr3 ⌝ }
 {
-    spcr3 % 2 == 1
+    bit_0(spcr3)
 }
 
 // Ruled out: another bit; the bit inverted.
@@ -62,7 +78,7 @@ pub fn cont(command: u8) -> bool
 fn zero_means(other: u16, x: u16) -> u16
     ensures { λ r. ⌜ r ≡ zeroMeans other x ⌝ }
 {
-    if x == 0 { other } else { x }
+    choose_word(x == 0, other, x)
 }
 
 // Bits n of an entry.
@@ -70,11 +86,7 @@ fn zero_means(other: u16, x: u16) -> u16
 pub fn bits_of(spcr0: u16, command: u8) -> u16
     ensures { λ r. ⌜ r ≡ bitsOf spcr0 command ⌝ }
 {
-    if command / 64 % 2 == 1 {
-        zero_means(16, spcr0 / 1024 % 16)
-    } else {
-        8
-    }
+    choose_word(command / 64 % 2 == 1, zero_means(16, spcr0 / 1024 % 16), 8)
 }
 
 // Pre-delay p in clocks.
@@ -82,11 +94,11 @@ pub fn bits_of(spcr0: u16, command: u8) -> u16
 pub fn pre_delay(spcr0: u16, spcr1: u16, command: u8) -> u16
     ensures { λ r. ⌜ r ≡ preDelay spcr0 spcr1 command ⌝ }
 {
-    if command / 16 % 2 == 1 {
-        zero_means(128, spcr1 / 256 % 128)
-    } else {
-        spcr0 % 256
-    }
+    choose_word(
+        command / 16 % 2 == 1,
+        zero_means(128, spcr1 / 256 % 128),
+        spcr0 % 256,
+    )
 }
 
 // Clocks from edge 2n to the next clock 1.
@@ -94,9 +106,9 @@ pub fn pre_delay(spcr0: u16, spcr1: u16, command: u8) -> u16
 pub fn delay_after(spcr1: u16, command: u8) -> u16
     ensures { λ r. ⌜ r ≡ delayAfter spcr1 command ⌝ }
 {
-    if command / 32 % 2 == 1 {
-        zero_means(8192, 32 * (spcr1 % 256))
-    } else {
-        17
-    }
+    choose_word(
+        command / 32 % 2 == 1,
+        zero_means(8192, 32 * (spcr1 % 256)),
+        17,
+    )
 }

@@ -17,11 +17,8 @@ impl Qspi {
     pub fn sck(self) -> bool
         ensures { λ r. ⌜ r ≡ sck self ⌝ }
     {
-        if self.edges % 2 == 1 {
-            !cpol(self.spcr0)
-        } else {
-            cpol(self.spcr0)
-        }
+        let rest = cpol(self.spcr0);
+        if self.edges % 2 == 1 { !rest } else { rest }
     }
 
     // Ruled out: the bit inverted; always false.

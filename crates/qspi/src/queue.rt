@@ -1,10 +1,13 @@
 // One clock of the queue: clock 1 of an entry, its edges, what edge 2n leaves, the delay, halt and mode fault.
 ghost use mathlib.Core.Path.{_≡_};
-ghost use Prim.Native.Nat.{_-_};
-ghost use Rattle.qspi.specs.Queue.{wrapTo, changes, bitOut, mosiAfter, collectedAfter, entryAt, loaded, started, edgeFallen, stored, finished, wrapped, advanced, followed, completed, judged, edge, counted, playClock, inDelay, delayOver, delayed, delayClock, ready, startIf, startClock, clockAt, clockIf, queueClock, misoOf, selected, faultNow, faulted, clock};
+ghost use mathlib.Core.Bool.{cond};
+ghost use Prim.Native.Nat.{_-_, _<_};
+ghost use Rattle.qspi.specs.Queue.{wrapTo, changes, bitOut, mosiAfter, pushed, collectedAfter, entryAt, loaded, started, edgeFallen, stored, finished, wrapped, advanced, followed, completed, judged, edge, counted, playClock, inDelay, delayOver, delayed, delayClock, ready, startIf, startClock, clockAt, clockIf, queueClock, misoOf, selected, faultNow, faulted, clock};
 use crate::Pins;
 use crate::Qspi;
+use crate::fields::bit_0;
 use crate::fields::bits_of;
+use crate::fields::choose_word;
 use crate::fields::cont;
 use crate::fields::cpha;
 use crate::fields::delay_after;
@@ -14,6 +17,25 @@ use crate::fields::pre_delay;
 use crate::fields::spbr;
 use crate::fields::spe;
 use crate::fields::wren;
+use steps::choose;
+
+fn lower(n: u16) -> u16
+    ensures { λ r. ⌜ r ≡ n - 1 ⌝ }
+{
+    if n == 0 { 0 } else { n - 1 }
+}
+
+fn minus(a: u16, b: u16) -> u16
+    ensures { λ r. ⌜ r ≡ a - b ⌝ }
+{
+    if b < a { a - b } else { 0 }
+}
+
+fn pick(first: bool, a: bool, b: bool) -> bool
+    ensures { λ r. ⌜ r ≡ cond first a b ⌝ }
+{
+    if first { a } else { b }
+}
 
 // MOSI changes on this edge.
 fn changes(cpha: bool, j: u8) -> bool
@@ -22,35 +44,47 @@ fn changes(cpha: bool, j: u8) -> bool
     if cpha { j % 2 == 1 } else { j % 2 == 0 }
 }
 
+fn bit_out(w: u16, n: u16, i: u16) -> bool
+    ensures { λ r. ⌜ r ≡ bitOut w n i ⌝ }
+{
+    (w >> (minus(minus(n, 1), i) % 16)) % 2 == 1
+}
+
 fn mosi_after(cpha: bool, n: u16, w: u16, j: u8, mosi: bool) -> bool
     ensures { λ r. ⌜ r ≡ mosiAfter cpha n w j mosi ⌝ }
 {
     let i = (j / 2) as u16;
-    if changes(cpha, j) {
-        if i < n {
-            return (w >> ((n - 1 - i) % 16)) % 2 == 1;
-        }
+    pick(changes(cpha, j) & (i < n), bit_out(w, n, i), mosi)
+}
+
+fn pushed(collected: u16, miso: bool) -> u16
+    ensures { λ r. ⌜ r ≡ pushed collected miso ⌝ }
+{
+    if miso {
+        collected % 32768 * 2 + 1
+    } else {
+        collected % 32768 * 2
     }
-    mosi
 }
 
 fn collected_after(cpha: bool, j: u8, miso: bool, collected: u16) -> u16
     ensures { λ r. ⌜ r ≡ collectedAfter cpha j miso collected ⌝ }
 {
-    if changes(!cpha, j) {
-        if miso {
-            return collected % 32768 * 2 + 1;
-        }
-        return collected % 32768 * 2;
-    }
-    collected
+    choose_word(changes(!cpha, j), pushed(collected, miso), collected)
+}
+
+// Where a queue with WREN goes on after its end.
+fn wrap_to(working: u16) -> u8
+    ensures { λ r. ⌜ r ≡ wrapTo working ⌝ }
+{
+    choose(working / 8192 % 2 == 1, (working % 16) as u8, 0)
 }
 
 // MISO's level, zero unless it is assigned and an input.
 fn miso_of(pins: Pins) -> bool
     ensures { λ r. ⌜ r ≡ misoOf pins ⌝ }
 {
-    (pins.pqspar % 2 == 1) & !(pins.ddrqs % 2 == 1) & (pins.levels % 2 == 1)
+    bit_0(pins.pqspar) & !bit_0(pins.ddrqs) & bit_0(pins.levels)
 }
 
 // PQS3 assigned, input and low.
@@ -62,7 +96,8 @@ fn selected(pins: Pins) -> bool
 
 impl Qspi {
     fn entry_at(self) -> u8
-        ensures { λ r. ⌜ r ≡ entryAt self ⌝ }
+        ensures value { λ r. ⌜ r ≡ entryAt self ⌝ }
+        ensures small { λ r. ⌜ r < 16 ⌝ }
     {
         if self.pending {
             (self.spcr2 % 16) as u8
@@ -75,7 +110,7 @@ impl Qspi {
         ensures { λ r. ⌜ r ≡ loaded self ⌝ }
     {
         let at = self.entry_at();
-        let i = (at % 16) as usize;
+        let i = at as usize;
         self.working = self.spcr2;
         self.pointer = at;
         self.pending = false;
@@ -147,21 +182,11 @@ impl Qspi {
         self
     }
 
-    fn wrap_to(self) -> u8
-        ensures { λ r. ⌜ r ≡ wrapTo (self .working) ⌝ }
-    {
-        if self.working / 8192 % 2 == 1 {
-            (self.working % 16) as u8
-        } else {
-            0
-        }
-    }
-
     fn wrapped(mut self) -> Qspi
         ensures { λ r. ⌜ r ≡ wrapped self ⌝ }
     {
         self.spif = true;
-        self.pointer = self.wrap_to();
+        self.pointer = wrap_to(self.working);
         self
     }
 
@@ -329,10 +354,4 @@ impl Qspi {
         self.faulted(self.fault_now(pins))
             .queue_clock(miso_of(pins))
     }
-}
-
-fn lower(n: u16) -> u16
-    ensures { λ r. ⌜ r ≡ n - 1 ⌝ }
-{
-    if n == 0 { 0 } else { n - 1 }
 }

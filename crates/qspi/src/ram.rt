@@ -1,6 +1,6 @@
 // The queue RAM by words and their byte lanes.
 ghost use mathlib.Core.Path.{_≡_};
-ghost use Rattle.qspi.specs.Ram.{receiveWord, transmitWord, commandWord, writeReceive, writeTransmit, withCommands, writeCommand};
+ghost use Rattle.qspi.specs.Ram.{receiveWord, transmitWord, commandWord, writeReceive, writeTransmit, commandsSet, writeCommand};
 use crate::Qspi;
 use steps::lower_byte;
 use steps::merge;
@@ -48,8 +48,8 @@ impl Qspi {
         self
     }
 
-    fn with_commands(mut self, i: u8, w: u16) -> Qspi
-        ensures { λ r. ⌜ r ≡ withCommands self i w ⌝ }
+    fn commands_set(mut self, i: u8, w: u16) -> Qspi
+        ensures { λ r. ⌜ r ≡ commandsSet self i w ⌝ }
     {
         let at = (i % 8 * 2) as usize;
         self.commands[at] = upper_byte(w);
@@ -61,6 +61,6 @@ impl Qspi {
     pub fn write_command(self, i: u8, v: u16, upper: bool, lower: bool) -> Qspi
         ensures { λ r. ⌜ r ≡ writeCommand self i v upper lower ⌝ }
     {
-        self.with_commands(i, merge(self.command_word(i), v, upper, lower))
+        self.commands_set(i, merge(self.command_word(i), v, upper, lower))
     }
 }

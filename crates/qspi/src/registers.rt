@@ -1,8 +1,9 @@
 // The queue's registers as words: reset, reads, writes by byte lanes, and what a write is refused for.
 ghost use mathlib.Core.Path.{_≡_};
-ghost use Prim.Native.Nat.{_%_};
+ghost use Prim.Native.Nat.{_≤_};
 ghost use Rattle.steps.specs.Bits.{digit};
-ghost use Rattle.qspi.specs.Registers.{reset, status, spcr3Spsr, statusRead, abandoned, risen, switched, writeSpcr0, withSpcr1, writeSpcr1, spcr2Bits, writeSpcr2, falls, withSpcr3, writeSpcr3Spsr, spcr0Unmodelled, spcr1Unmodelled, spcr3Unmodelled, spcr0Guarded, spcr1Guarded};
+ghost use Rattle.qspi.specs.Registers.{reset, status, spcr3Spsr, statusRead, abandoned, risen, switched, writeSpcr0, writeSpcr1, spcr2Bits, writeSpcr2, falls, flagsFallen, writeSpcr3Spsr, spcr0Unmodelled, spcr1Unmodelled, spcr3Unmodelled, spcr0Guarded, spcr1Guarded};
+ghost use Rattle.qspi.specs.State.{withSpcr1};
 use crate::Qspi;
 use crate::fields::mstr;
 use crate::fields::spe;
@@ -12,7 +13,8 @@ use steps::upper_byte;
 use steps::word;
 
 fn digit(b: bool) -> u8
-    ensures { λ r. ⌜ r ≡ digit b ⌝ }
+    ensures value { λ r. ⌜ r ≡ digit b ⌝ }
+    ensures small { λ r. ⌜ r ≤ 1 ⌝ }
 {
     if b { 1 } else { 0 }
 }
@@ -195,25 +197,25 @@ impl Qspi {
         self
     }
 
-    fn with_spcr3(mut self, w: u8, spif_falls: bool, modf_falls: bool, halta_falls: bool) -> Qspi
-        ensures { λ r. ⌜ r ≡ withSpcr3 self w spif_falls modf_falls halta_falls ⌝ }
+    // The flags that fall lose their marks.
+    fn flags_fallen(mut self, spif: bool, modf: bool, halta: bool) -> Qspi
+        ensures { λ r. ⌜ r ≡ flagsFallen self spif modf halta ⌝ }
     {
-        self.spcr3 = w;
-        self.spif = self.spif & !spif_falls;
-        self.modf = self.modf & !modf_falls;
-        self.halta = self.halta & !halta_falls;
-        self.spif_seen = self.spif_seen & !spif_falls;
-        self.modf_seen = self.modf_seen & !modf_falls;
-        self.halta_seen = self.halta_seen & !halta_falls;
+        self.spif = self.spif & !spif;
+        self.modf = self.modf & !modf;
+        self.halta = self.halta & !halta;
+        self.spif_seen = self.spif_seen & !spif;
+        self.modf_seen = self.modf_seen & !modf;
+        self.halta_seen = self.halta_seen & !halta;
         self
     }
 
     // Ruled out: a flag falling unseen, or by a one; a flag set by a write; CPTQP written.
-    pub fn write_spcr3_spsr(self, v: u16, upper: bool, lower: bool) -> Qspi
+    pub fn write_spcr3_spsr(mut self, v: u16, upper: bool, lower: bool) -> Qspi
         ensures { λ r. ⌜ r ≡ writeSpcr3Spsr self v upper lower ⌝ }
     {
-        self.with_spcr3(
-            choose(upper, upper_byte(v) % 8, self.spcr3),
+        self.spcr3 = choose(upper, upper_byte(v) % 8, self.spcr3);
+        self.flags_fallen(
             falls(lower, self.spif_seen, v / 128 % 2 == 1),
             falls(lower, self.modf_seen, v / 64 % 2 == 1),
             falls(lower, self.halta_seen, v / 32 % 2 == 1),
