@@ -11,6 +11,13 @@ pub fn choose_word(first: bool, a: u16, b: u16) -> u16
     if first { a } else { b }
 }
 
+// Ruled out: the choice the other way round; always the first.
+pub fn choose_bit(first: bool, a: bool, b: bool) -> bool
+    ensures { λ r. ⌜ r ≡ cond first a b ⌝ }
+{
+    if first { a } else { b }
+}
+
 // Ruled out: another bit; the bit inverted.
 pub fn bit_0(x: u8) -> bool
     ensures { λ r. ⌜ r ≡ bit 0 x ⌝ }

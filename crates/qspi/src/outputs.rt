@@ -2,6 +2,7 @@
 ghost use mathlib.Core.Path.{_≡_};
 ghost use Rattle.qspi.specs.Outputs.{enabled, sck, pcs, asks};
 use crate::Qspi;
+use crate::fields::choose_bit;
 use crate::fields::cpol;
 use crate::fields::spe;
 
@@ -18,7 +19,7 @@ impl Qspi {
         ensures { λ r. ⌜ r ≡ sck self ⌝ }
     {
         let rest = cpol(self.spcr0);
-        if self.edges % 2 == 1 { !rest } else { rest }
+        choose_bit(self.edges % 2 == 1, !rest, rest)
     }
 
     // Ruled out: the bit inverted; always false.

@@ -1,12 +1,12 @@
 // One clock of the queue: clock 1 of an entry, its edges, what edge 2n leaves, the delay, halt and mode fault.
 ghost use mathlib.Core.Path.{_≡_};
-ghost use mathlib.Core.Bool.{cond};
 ghost use Prim.Native.Nat.{_-_, _<_};
 ghost use Rattle.qspi.specs.Queue.{wrapTo, changes, bitOut, mosiAfter, pushed, collectedAfter, entryAt, loaded, started, edgeFallen, stored, finished, wrapped, advanced, followed, completed, judged, edge, counted, playClock, inDelay, delayOver, delayed, delayClock, ready, startIf, startClock, clockAt, clockIf, queueClock, misoOf, selected, faultNow, faulted, clock};
 use crate::Pins;
 use crate::Qspi;
 use crate::fields::bit_0;
 use crate::fields::bits_of;
+use crate::fields::choose_bit;
 use crate::fields::choose_word;
 use crate::fields::cont;
 use crate::fields::cpha;
@@ -31,12 +31,6 @@ fn minus(a: u16, b: u16) -> u16
     if b < a { a - b } else { 0 }
 }
 
-fn pick(first: bool, a: bool, b: bool) -> bool
-    ensures { λ r. ⌜ r ≡ cond first a b ⌝ }
-{
-    if first { a } else { b }
-}
-
 // MOSI changes on this edge.
 fn changes(cpha: bool, j: u8) -> bool
     ensures { λ r. ⌜ r ≡ changes cpha j ⌝ }
@@ -54,7 +48,7 @@ fn mosi_after(cpha: bool, n: u16, w: u16, j: u8, mosi: bool) -> bool
     ensures { λ r. ⌜ r ≡ mosiAfter cpha n w j mosi ⌝ }
 {
     let i = (j / 2) as u16;
-    pick(changes(cpha, j) & (i < n), bit_out(w, n, i), mosi)
+    choose_bit(changes(cpha, j) & (i < n), bit_out(w, n, i), mosi)
 }
 
 fn pushed(collected: u16, miso: bool) -> u16
@@ -163,6 +157,7 @@ impl Qspi {
         self.cptqp = self.pointer % 16;
         self.playing = false;
         self.delaying = true;
+        self.halted = false;
         self.left = delay_after(self.spcr1, self.command);
         self.edges = 0;
         self
@@ -256,6 +251,7 @@ impl Qspi {
         if last {
             let halts = halt(self.spcr3);
             self.halta = self.halta | halts;
+            self.playing = false;
             self.delaying = false;
             self.halted = halts;
             self.left = 0;

@@ -1,33 +1,22 @@
 use borrow.Author.Needs.{needs}
 use Rattle.qspi.proofs.Qspi.clock_at.Statement.{statement}
 use Rattle.qspi.proofs.Qspi.clock_at.Tie as tie
-use Rattle.qspi.proofs.Qspi.clock_at.Reads as reads
-use Rattle.qspi.proofs.Qspi.clock_at.Lts as lts
-use Rattle.qspi.proofs.Qspi.delay_clock.Reads as delay-clock-reads
-use Rattle.qspi.proofs.Qspi.play_clock.Reads as play-clock-reads
-use Rattle.qspi.proofs.Qspi.start_clock.Reads as start-clock-reads
 
--- src/queue.rt:300:13
 play-clock-requires : tie.Need-play-clock-requires
 play-clock-requires c κs = search needs
 
--- src/queue.rt:300:13
 returns : tie.Need-returns
 returns c = rw (c .play-clock .ensures, c .before .if1 .taken)
 
--- src/queue.rt:303:13
 delay-clock-requires : tie.Need-delay-clock-requires
 delay-clock-requires c κs = search needs
 
--- src/queue.rt:305:13
 start-clock-requires : tie.Need-start-clock-requires
 start-clock-requires c κs = search needs
 
--- src/queue.rt:296:5
 returns-2 : tie.Need-returns-2
 returns-2 c = rw (c .delay-clock .ensures, c .before .if2 .taken, c .before .before .if1 .left)
 
--- src/queue.rt:296:5
 returns-3 : tie.Need-returns-3
 returns-3 c = rw (c .start-clock .ensures, c .before .if2 .left, c .before .before .if1 .left)
 

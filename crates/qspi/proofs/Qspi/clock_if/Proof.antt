@@ -1,19 +1,13 @@
 use borrow.Author.Needs.{needs}
 use Rattle.qspi.proofs.Qspi.clock_if.Statement.{statement}
 use Rattle.qspi.proofs.Qspi.clock_if.Tie as tie
-use Rattle.qspi.proofs.Qspi.clock_if.Reads as reads
-use Rattle.qspi.proofs.Qspi.clock_if.Lts as lts
-use Rattle.qspi.proofs.Qspi.clock_at.Reads as clock-at-reads
 
--- src/queue.rt:313:13
 clock-at-requires : tie.Need-clock-at-requires
 clock-at-requires c κs = search needs
 
--- src/queue.rt:309:5
 returns : tie.Need-returns
 returns c = rw (c .clock-at .ensures, c .before .if1 .taken)
 
--- src/queue.rt:309:5
 returns-2 : tie.Need-returns-2
 returns-2 c = rw (c .if1 .left)
 

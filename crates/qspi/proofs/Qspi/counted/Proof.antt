@@ -1,28 +1,19 @@
 use borrow.Author.Needs.{needs}
 use Rattle.qspi.proofs.Qspi.counted.Statement.{statement}
 use Rattle.qspi.proofs.Qspi.counted.Tie as tie
-use Rattle.qspi.proofs.Qspi.counted.Reads as reads
-use Rattle.qspi.proofs.Qspi.counted.Lts as lts
-use Rattle.qspi.proofs.Qspi.edge.Reads as edge-reads
-use Rattle.qspi.proofs.queue.lower.Reads as lower-reads
 
--- src/queue.rt:240:30
 add-edge : tie.Need-add-edge
 add-edge c = search needs
 
--- src/queue.rt:240:13
 edge-requires : tie.Need-edge-requires
 edge-requires c κs = search needs
 
--- src/queue.rt:240:13
 returns : tie.Need-returns
 returns c = rw (c .edge .ensures, c .before .before .if1 .taken)
 
--- src/queue.rt:242:9
 lower-requires : tie.Need-lower-requires
 lower-requires c κs = search needs
 
--- src/queue.rt:236:5
 returns-2 : tie.Need-returns-2
 returns-2 c = rw (c .lower .ensures, c .before .if1 .left)
 

@@ -2,15 +2,10 @@ use borrow.Author.Needs.{needs}
 use Rattle.qspi.specs.Queue.{delayClock}
 use Rattle.qspi.proofs.Qspi.delay_clock.Statement.{statement}
 use Rattle.qspi.proofs.Qspi.delay_clock.Tie as tie
-use Rattle.qspi.proofs.Qspi.delay_clock.Reads as reads
-use Rattle.qspi.proofs.Qspi.delay_clock.Lts as lts
-use Rattle.qspi.proofs.Qspi.delayed.Reads as delayed-reads
 
--- src/queue.rt:271:9
 delayed-requires : tie.Need-delayed-requires
 delayed-requires c κs = search needs
 
--- src/queue.rt:268:5
 returns : tie.Need-returns
 unfolding delayClock
 returns c = rw (c .delayed .ensures)

@@ -1,29 +1,19 @@
 use borrow.Author.Needs.{needs}
 use Rattle.qspi.proofs.Qspi.delayed.Statement.{statement}
 use Rattle.qspi.proofs.Qspi.delayed.Tie as tie
-use Rattle.qspi.proofs.Qspi.delayed.Reads as reads
-use Rattle.qspi.proofs.Qspi.delayed.Lts as lts
-use Rattle.qspi.proofs.fields.cont.Reads as cont-reads
-use Rattle.qspi.proofs.fields.halt.Reads as halt-reads
-use Rattle.qspi.proofs.queue.lower.Reads as lower-reads
 
--- src/queue.rt:255:43
 cont-requires : tie.Need-cont-requires
 cont-requires c κs = search needs
 
--- src/queue.rt:257:17
 halt-requires : tie.Need-halt-requires
 halt-requires c κs = search needs
 
--- src/queue.rt:262:13
 returns : tie.Need-returns
 returns c = rw (c .before .halt .ensures, c .before .before .if1 .taken, c .before .before .before .before .cont .ensures)
 
--- src/queue.rt:264:9
 lower-requires : tie.Need-lower-requires
 lower-requires c κs = search needs
 
--- src/queue.rt:252:5
 returns-2 : tie.Need-returns-2
 returns-2 c = rw (c .lower .ensures, c .before .if1 .left, c .before .before .before .cont .ensures)
 

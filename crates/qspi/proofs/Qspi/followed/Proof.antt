@@ -1,33 +1,22 @@
 use borrow.Author.Needs.{needs}
 use Rattle.qspi.proofs.Qspi.followed.Statement.{statement}
 use Rattle.qspi.proofs.Qspi.followed.Tie as tie
-use Rattle.qspi.proofs.Qspi.followed.Reads as reads
-use Rattle.qspi.proofs.Qspi.followed.Lts as lts
-use Rattle.qspi.proofs.Qspi.advanced.Reads as advanced-reads
-use Rattle.qspi.proofs.Qspi.finished.Reads as finished-reads
-use Rattle.qspi.proofs.Qspi.wrapped.Reads as wrapped-reads
 
--- src/queue.rt:206:17
 wrapped-requires : tie.Need-wrapped-requires
 wrapped-requires c κs = search needs
 
--- src/queue.rt:208:17
 finished-requires : tie.Need-finished-requires
 finished-requires c κs = search needs
 
--- src/queue.rt:211:13
 advanced-requires : tie.Need-advanced-requires
 advanced-requires c κs = search needs
 
--- src/queue.rt:201:5
 returns : tie.Need-returns
 returns c = rw (c .wrapped .ensures, c .before .if2 .taken, c .before .before .if1 .taken)
 
--- src/queue.rt:201:5
 returns-2 : tie.Need-returns-2
 returns-2 c = rw (c .finished .ensures, c .before .if2 .left, c .before .before .if1 .taken)
 
--- src/queue.rt:201:5
 returns-3 : tie.Need-returns-3
 returns-3 c = rw (c .advanced .ensures, c .before .if1 .left)
 

@@ -1,19 +1,13 @@
 use borrow.Author.Needs.{needs}
 use Rattle.qspi.proofs.Qspi.judged.Statement.{statement}
 use Rattle.qspi.proofs.Qspi.judged.Tie as tie
-use Rattle.qspi.proofs.Qspi.judged.Reads as reads
-use Rattle.qspi.proofs.Qspi.judged.Lts as lts
-use Rattle.qspi.proofs.Qspi.completed.Reads as completed-reads
 
--- src/queue.rt:225:18
 completed-requires : tie.Need-completed-requires
 completed-requires c κs = search needs
 
--- src/queue.rt:222:5
 returns : tie.Need-returns
 returns c = rw (c .completed .ensures, c .before .if1 .taken)
 
--- src/queue.rt:222:5
 returns-2 : tie.Need-returns-2
 returns-2 c = rw (c .if1 .left)
 

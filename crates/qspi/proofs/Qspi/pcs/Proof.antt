@@ -1,13 +1,9 @@
 use Rattle.qspi.proofs.Qspi.pcs.Statement.{statement}
 use Rattle.qspi.proofs.Qspi.pcs.Tie as tie
-use Rattle.qspi.proofs.Qspi.pcs.Reads as reads
-use Rattle.qspi.proofs.Qspi.pcs.Lts as lts
 
--- src/outputs.rt:32:5
 returns : tie.Need-returns
 returns c = rw (c .before .if1 .taken)
 
--- src/outputs.rt:32:5
 returns-2 : tie.Need-returns-2
 returns-2 c = rw (c .if1 .left)
 

@@ -2,20 +2,13 @@ use borrow.Author.Needs.{needs}
 use Rattle.qspi.specs.Queue.{queueClock}
 use Rattle.qspi.proofs.Qspi.queue_clock.Statement.{statement}
 use Rattle.qspi.proofs.Qspi.queue_clock.Tie as tie
-use Rattle.qspi.proofs.Qspi.queue_clock.Reads as reads
-use Rattle.qspi.proofs.Qspi.queue_clock.Lts as lts
-use Rattle.qspi.proofs.Qspi.clock_if.Reads as clock-if-reads
-use Rattle.qspi.proofs.fields.spe.Reads as spe-reads
 
--- src/queue.rt:322:23
 spe-requires : tie.Need-spe-requires
 spe-requires c κs = search needs
 
--- src/queue.rt:322:9
 clock-if-requires : tie.Need-clock-if-requires
 clock-if-requires c κs = search needs
 
--- src/queue.rt:319:5
 returns : tie.Need-returns
 unfolding queueClock
 returns c = rw (c .clock-if .ensures, c .before .spe .ensures)

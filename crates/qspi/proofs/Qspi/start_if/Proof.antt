@@ -1,29 +1,19 @@
 use borrow.Author.Needs.{needs}
 use Rattle.qspi.proofs.Qspi.start_if.Statement.{statement}
 use Rattle.qspi.proofs.Qspi.start_if.Tie as tie
-use Rattle.qspi.proofs.Qspi.start_if.Reads as reads
-use Rattle.qspi.proofs.Qspi.start_if.Lts as lts
-use Rattle.qspi.proofs.Qspi.loaded.Reads as loaded-reads
-use Rattle.qspi.proofs.Qspi.play_clock.Reads as play-clock-reads
-use Rattle.qspi.proofs.Qspi.started.Reads as started-reads
 
--- src/queue.rt:284:13
 loaded-requires : tie.Need-loaded-requires
 loaded-requires c κs = search needs
 
--- src/queue.rt:284:13
 started-requires : tie.Need-started-requires
 started-requires c κs = search needs
 
--- src/queue.rt:284:13
 play-clock-requires : tie.Need-play-clock-requires
 play-clock-requires c κs = search needs
 
--- src/queue.rt:280:5
 returns : tie.Need-returns
 returns c = rw (c .play-clock .ensures, c .before .started .ensures, c .before .before .loaded .ensures, c .before .before .before .if1 .taken)
 
--- src/queue.rt:280:5
 returns-2 : tie.Need-returns-2
 returns-2 c = rw (c .if1 .left)
 

@@ -1,32 +1,22 @@
 use borrow.Author.Needs.{needs}
 use Rattle.qspi.proofs.Qspi.switched.Statement.{statement}
 use Rattle.qspi.proofs.Qspi.switched.Tie as tie
-use Rattle.qspi.proofs.Qspi.switched.Reads as reads
-use Rattle.qspi.proofs.Qspi.switched.Lts as lts
-use Rattle.qspi.proofs.Qspi.abandoned.Reads as abandoned-reads
-use Rattle.qspi.proofs.Qspi.risen.Reads as risen-reads
 
--- src/registers.rt:162:38
 abandoned-requires : tie.Need-abandoned-requires
 abandoned-requires c κs = search needs
 
--- src/registers.rt:164:24
 risen-requires : tie.Need-risen-requires
 risen-requires c κs = search needs
 
--- src/registers.rt:158:5
 returns : tie.Need-returns
 returns c = rw (c .if2 .taken, c .before .if1 .taken)
 
--- src/registers.rt:158:5
 returns-2 : tie.Need-returns-2
 returns-2 c = rw (c .abandoned .ensures, c .before .if2 .left, c .before .before .if1 .taken)
 
--- src/registers.rt:158:5
 returns-3 : tie.Need-returns-3
 returns-3 c = rw (c .risen .ensures, c .before .if3 .taken, c .before .before .if1 .left)
 
--- src/registers.rt:158:5
 returns-4 : tie.Need-returns-4
 returns-4 c = rw (c .if3 .left, c .before .if1 .left)
 

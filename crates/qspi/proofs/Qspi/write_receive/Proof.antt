@@ -1,35 +1,25 @@
 use borrow.Author.Needs.{needs}
 use Rattle.qspi.proofs.Qspi.write_receive.Statement.{statement}
 use Rattle.qspi.proofs.Qspi.write_receive.Tie as tie
-use Rattle.qspi.proofs.Qspi.write_receive.Reads as reads
-use Rattle.qspi.proofs.Qspi.write_receive.Lts as lts
-use Rattle.steps.proofs.merge.Reads as merge-reads
 
--- src/ram.rt:37:18
 cast-at : tie.Need-cast-at
 cast-at c = search needs
 
--- src/ram.rt:38:34
 mul-merge : tie.Need-mul-merge
 mul-merge c = search needs
 
--- src/ram.rt:38:34
 element-copy-out-merge : tie.Need-element-copy-out-merge
 element-copy-out-merge c = search needs
 
--- src/ram.rt:38:28
 merge-requires : tie.Need-merge-requires
 merge-requires c κs = search needs
 
--- src/ram.rt:38:9
 mul-self : tie.Need-mul-self
 mul-self c = search needs
 
--- src/ram.rt:38:9
 element-write-self : tie.Need-element-write-self
 element-write-self c = search needs
 
--- src/ram.rt:34:5
 returns : tie.Need-returns
 returns c = rw (c .merge .ensures)
 

@@ -1,15 +1,10 @@
 use borrow.Author.Needs.{needs}
 use Rattle.qspi.proofs.Qspi.write_spcr0.Statement.{statement}
 use Rattle.qspi.proofs.Qspi.write_spcr0.Tie as tie
-use Rattle.qspi.proofs.Qspi.write_spcr0.Reads as reads
-use Rattle.qspi.proofs.Qspi.write_spcr0.Lts as lts
-use Rattle.steps.proofs.merge.Reads as merge-reads
 
--- src/registers.rt:172:9
 merge-requires : tie.Need-merge-requires
 merge-requires c κs = search needs
 
--- src/registers.rt:169:5
 returns : tie.Need-returns
 returns c = rw (c .merge .ensures)
 

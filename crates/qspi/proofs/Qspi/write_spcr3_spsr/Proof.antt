@@ -1,38 +1,25 @@
 use borrow.Author.Needs.{needs}
 use Rattle.qspi.proofs.Qspi.write_spcr3_spsr.Statement.{statement}
 use Rattle.qspi.proofs.Qspi.write_spcr3_spsr.Tie as tie
-use Rattle.qspi.proofs.Qspi.write_spcr3_spsr.Reads as reads
-use Rattle.qspi.proofs.Qspi.write_spcr3_spsr.Lts as lts
-use Rattle.qspi.proofs.Qspi.flags_fallen.Reads as flags-fallen-reads
-use Rattle.qspi.proofs.registers.falls.Reads as falls-reads
-use Rattle.steps.proofs.choose.Reads as choose-reads
-use Rattle.steps.proofs.upper_byte.Reads as upper-byte-reads
 
--- src/registers.rt:217:36
 upper-byte-requires : tie.Need-upper-byte-requires
 upper-byte-requires c κs = search needs
 
--- src/registers.rt:217:9
 choose-requires : tie.Need-choose-requires
 choose-requires c κs = search needs
 
--- src/registers.rt:219:13
 falls-requires : tie.Need-falls-requires
 falls-requires c κs = search needs
 
--- src/registers.rt:220:13
 falls-requires-2 : tie.Need-falls-requires-2
 falls-requires-2 c κs = search needs
 
--- src/registers.rt:221:13
 falls-requires-3 : tie.Need-falls-requires-3
 falls-requires-3 c κs = search needs
 
--- src/registers.rt:218:9
 flags-fallen-requires : tie.Need-flags-fallen-requires
 flags-fallen-requires c κs = search needs
 
--- src/registers.rt:214:5
 returns : tie.Need-returns
 returns c = rw (c .flags-fallen .ensures, c .before .falls3 .ensures, c .before .before .falls2 .ensures, c .before .before .before .falls .ensures, c .before .before .before .before .choose .ensures, c .before .before .before .before .before .upper-byte .ensures)
 

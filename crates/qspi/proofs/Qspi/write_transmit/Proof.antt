@@ -1,35 +1,25 @@
 use borrow.Author.Needs.{needs}
 use Rattle.qspi.proofs.Qspi.write_transmit.Statement.{statement}
 use Rattle.qspi.proofs.Qspi.write_transmit.Tie as tie
-use Rattle.qspi.proofs.Qspi.write_transmit.Reads as reads
-use Rattle.qspi.proofs.Qspi.write_transmit.Lts as lts
-use Rattle.steps.proofs.merge.Reads as merge-reads
 
--- src/ram.rt:46:18
 cast-at : tie.Need-cast-at
 cast-at c = search needs
 
--- src/ram.rt:47:35
 mul-merge : tie.Need-mul-merge
 mul-merge c = search needs
 
--- src/ram.rt:47:35
 element-copy-out-merge : tie.Need-element-copy-out-merge
 element-copy-out-merge c = search needs
 
--- src/ram.rt:47:29
 merge-requires : tie.Need-merge-requires
 merge-requires c κs = search needs
 
--- src/ram.rt:47:9
 mul-self : tie.Need-mul-self
 mul-self c = search needs
 
--- src/ram.rt:47:9
 element-write-self : tie.Need-element-write-self
 element-write-self c = search needs
 
--- src/ram.rt:43:5
 returns : tie.Need-returns
 returns c = rw (c .merge .ensures)
 

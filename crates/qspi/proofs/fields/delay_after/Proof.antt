@@ -2,24 +2,16 @@ use borrow.Author.Needs.{needs}
 use Rattle.qspi.specs.Fields.{delayAfter}
 use Rattle.qspi.proofs.fields.delay_after.Statement.{statement}
 use Rattle.qspi.proofs.fields.delay_after.Tie as tie
-use Rattle.qspi.proofs.fields.delay_after.Reads as reads
-use Rattle.qspi.proofs.fields.delay_after.Lts as lts
-use Rattle.qspi.proofs.fields.choose_word.Reads as choose-word-reads
-use Rattle.qspi.proofs.fields.zero_means.Reads as zero-means-reads
 
--- src/fields.rt:111:26
 mul-zero-means : tie.Need-mul-zero-means
 mul-zero-means c = search needs
 
--- src/fields.rt:111:9
 zero-means-requires : tie.Need-zero-means-requires
 zero-means-requires c κs = search needs
 
--- src/fields.rt:109:5
 choose-word-requires : tie.Need-choose-word-requires
 choose-word-requires c κs = search needs
 
--- src/fields.rt:106:1
 returns : tie.Need-returns
 unfolding delayAfter
 returns c = rw (c .choose-word .ensures, c .before .zero-means .ensures)

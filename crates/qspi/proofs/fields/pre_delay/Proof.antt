@@ -2,20 +2,13 @@ use borrow.Author.Needs.{needs}
 use Rattle.qspi.specs.Fields.{preDelay}
 use Rattle.qspi.proofs.fields.pre_delay.Statement.{statement}
 use Rattle.qspi.proofs.fields.pre_delay.Tie as tie
-use Rattle.qspi.proofs.fields.pre_delay.Reads as reads
-use Rattle.qspi.proofs.fields.pre_delay.Lts as lts
-use Rattle.qspi.proofs.fields.choose_word.Reads as choose-word-reads
-use Rattle.qspi.proofs.fields.zero_means.Reads as zero-means-reads
 
--- src/fields.rt:99:9
 zero-means-requires : tie.Need-zero-means-requires
 zero-means-requires c κs = search needs
 
--- src/fields.rt:97:5
 choose-word-requires : tie.Need-choose-word-requires
 choose-word-requires c κs = search needs
 
--- src/fields.rt:94:1
 returns : tie.Need-returns
 unfolding preDelay
 returns c = rw (c .choose-word .ensures, c .before .zero-means .ensures)

@@ -1,13 +1,9 @@
 use Rattle.qspi.proofs.queue.changes.Statement.{statement}
 use Rattle.qspi.proofs.queue.changes.Tie as tie
-use Rattle.qspi.proofs.queue.changes.Reads as reads
-use Rattle.qspi.proofs.queue.changes.Lts as lts
 
--- src/queue.rt:41:1
 returns : tie.Need-returns
 returns c = rw (c .if1 .taken)
 
--- src/queue.rt:41:1
 returns-2 : tie.Need-returns-2
 returns-2 c = rw (c .if1 .left)
 

@@ -1,23 +1,16 @@
 use borrow.Author.Needs.{needs}
 use Rattle.qspi.proofs.queue.miso_of.Statement.{statement}
 use Rattle.qspi.proofs.queue.miso_of.Tie as tie
-use Rattle.qspi.proofs.queue.miso_of.Reads as reads
-use Rattle.qspi.proofs.queue.miso_of.Lts as lts
-use Rattle.qspi.proofs.fields.bit_0.Reads as bit-0-reads
 
--- src/queue.rt:87:5
 bit-0-requires : tie.Need-bit-0-requires
 bit-0-requires c κs = search needs
 
--- src/queue.rt:87:27
 bit-0-requires-2 : tie.Need-bit-0-requires-2
 bit-0-requires-2 c κs = search needs
 
--- src/queue.rt:87:47
 bit-0-requires-3 : tie.Need-bit-0-requires-3
 bit-0-requires-3 c κs = search needs
 
--- src/queue.rt:84:1
 returns : tie.Need-returns
 returns c = rw (c .bit-03 .ensures, c .before .bit-02 .ensures, c .before .before .bit-0 .ensures)
 
