@@ -4,3 +4,5 @@ pub mod Registers
 pub mod Ram
 pub mod Queue
 pub mod Outputs
+pub mod Entry
+pub mod Laws

@@ -1,11 +1,10 @@
 use mathlib.Core.Path.{refl}
-use lib.ListN.{replicate}
 use Rattle.qspi.specs.Registers.{reset}
 use Rattle.qspi.proofs.Qspi.reset.Statement.{statement}
 use Rattle.qspi.proofs.Qspi.reset.Tie as tie
 
 returns : tie.Need-returns
-unfolding reset replicate
+unfolding reset
 returns c = refl
 
 pub reset-spec : {M : Type 1} → statement M
