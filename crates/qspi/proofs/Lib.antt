@@ -1,2 +1,4 @@
 pub mod Bounds
 pub mod Edges
+pub mod Completed
+pub mod Mosi

@@ -1,9 +1,11 @@
 -- A run of the queue with no access in between, and the clocks of an entry.
-use mathlib.Core.Bool.{Bool, false}
-use Prim.Native.Nat.{ℕ, zero, suc, _+_, _*_}
-use Rattle.qspi.specs.Fields.{cpha, spbr, cont, bitsOf, preDelay, delayAfter}
+use mathlib.Core.Bool.{Bool, false, cond}
+use Prim.Native.Nat.{ℕ, zero, suc, _+_, _-_, _*_, _/_, _%_}
+use lib.ListN.{getD}
+use Rattle.steps.specs.Bits.{digit}
+use Rattle.qspi.specs.Fields.{cpha, spbr, endqp, cont, bitsOf, preDelay, delayAfter}
 use Rattle.qspi.specs.State.{withPlace, withCount, withSelecting, withMosi, withCollected}
-use Rattle.qspi.specs.Queue.{mosiAfter, collectedAfter, loaded, started, misoOf, clock}
+use Rattle.qspi.specs.Queue.{mosiAfter, collectedAfter, entryAt, loaded, started, misoOf, clock}
 use Rattle.qspi.specs.declared.Qspi.{Qspi}
 use Rattle.qspi.specs.declared.Pins.{Pins}
 
@@ -30,21 +32,31 @@ abbrev pub delayIn : Qspi → ℕ
 delayIn e = delayAfter (e .spcr1) (e .command)
 
 -- Edge j falls at clock p + (j - 1) x SPBR of the entry; 'edge 0' is its beginning.
+abbrev pub edgeAt : ℕ → ℕ → ℕ → ℕ
+edgeAt p s zero = 0
+edgeAt p s (suc j) = p + j * s
+
 abbrev pub edgeClock : Qspi → ℕ → ℕ
-edgeClock e zero = 0
-edgeClock e (suc j) = preIn e + j * spbrIn e
+edgeClock e j = edgeAt (preIn e) (spbrIn e) j
 
 -- Clocks from edge j to the next.
 abbrev pub gap : Qspi → ℕ → ℕ
 gap e zero = preIn e
 gap e (suc j) = spbrIn e
 
--- The clock of edge 2n, and the entry's length with its delay.
+-- The clock of edge 2n, and the entry's length with its delay, from SPCR0, SPCR1 and the command.
+abbrev pub lastClockOf : ℕ → ℕ → ℕ → ℕ
+lastClockOf spcr0 spcr1 command =
+    edgeAt (preDelay spcr0 spcr1 command) (spbr spcr0) (bitsOf spcr0 command * 2)
+
+abbrev pub lengthOf : ℕ → ℕ → ℕ → ℕ
+lengthOf spcr0 spcr1 command = lastClockOf spcr0 spcr1 command + delayAfter spcr1 command
+
 abbrev pub lastClock : Qspi → ℕ
-lastClock e = edgeClock e (bitsIn e * 2)
+lastClock e = lastClockOf (e .spcr0) (e .spcr1) (e .command)
 
 abbrev pub lengthIn : Qspi → ℕ
-lengthIn e = lastClock e + delayIn e
+lengthIn e = lengthOf (e .spcr0) (e .spcr1) (e .command)
 
 -- MOSI and the bits read, when j edges of the entry have fallen.
 unfoldable pub mosiBy : Qspi → ℕ → Bool
@@ -66,3 +78,35 @@ waiting q left = withSelecting (withCount q left (q .edges)) (cont (q .command))
 
 abbrev pub waited : Qspi → Qspi
 waited q = withSelecting (withCount (withPlace q false false false) 0 (q .edges)) (cont (q .command))
+
+-- The bit of the word, counted from its highest, that MOSI shows when j edges have fallen.
+abbrev pub bitShown : Bool → ℕ → ℕ
+bitShown cpha j = cond cpha ((j - 1) / 2) (j / 2)
+
+-- The edge on which bit i of the n is read, counted from the first: odd edges for CPHA=0, even for CPHA=1.
+abbrev pub readingEdge : Bool → ℕ → ℕ
+readingEdge cpha i = cond cpha (i * 2 + 2) (i * 2 + 1)
+
+-- The first n bits as a word, the first one highest.
+unfoldable pub wordOf : (ℕ → Bool) → ℕ → ℕ
+wordOf bits zero = 0
+wordOf bits (suc i) = wordOf bits i * 2 + digit (bits i)
+
+-- The bits that stand on MISO at the reading edges of an entry.
+abbrev pub bitsRead : Qspi → (ℕ → Pins) → ℕ → Bool
+bitsRead e pins i = misoOf (pins (edgeClock e (readingEdge (cpha (e .spcr0)) i)))
+
+-- Entry number k of a queue that starts at q, its command, and the clocks before its clock 1.
+abbrev pub entryNo : Qspi → ℕ → ℕ
+entryNo q k = (entryAt q + k) % 16
+
+abbrev pub commandNo : Qspi → ℕ → ℕ
+commandNo q k = getD (q .commands) (entryNo q k) 0
+
+unfoldable pub beginsAt : Qspi → ℕ → ℕ
+beginsAt q zero = 0
+beginsAt q (suc k) = beginsAt q k + lengthOf (q .spcr0) (q .spcr1) (commandNo q k)
+
+-- How many entries stand before the one at ENDQP, modulo 16.
+abbrev pub entriesBefore : Qspi → ℕ
+entriesBefore q = (endqp (q .spcr2) + 16 - entryAt q) % 16

@@ -1,10 +1,13 @@
 -- Laws of an entry and of a queue, for all settings, with no reset, write, HALT or mode fault in between.
 use mathlib.Core.Path.{_≡_}
-use mathlib.Core.Bool.{Bool, true, false}
-use Prim.Native.Nat.{ℕ, zero, suc, _+_, _-_, _*_, _<_}
-use Rattle.qspi.specs.Fields.{spe}
-use Rattle.qspi.specs.Queue.{completed, ready, selected}
-use Rattle.qspi.specs.Entry.{run, entry, bitsIn, edgeClock, gap, lastClock, during}
+use mathlib.Core.Bool.{Bool, true, false, not, _||_}
+use Prim.Native.Nat.{ℕ, zero, suc, _+_, _-_, _*_, _^_, _≤_, _<_}
+use lib.Dec.{eqb}
+use lib.ListN.{set}
+use Rattle.steps.specs.Bits.{bit}
+use Rattle.qspi.specs.Fields.{cpha, spe, wren, endqp, halt}
+use Rattle.qspi.specs.Queue.{entryAt, completed, ready, selected, wrapTo}
+use Rattle.qspi.specs.Entry.{run, entry, bitsIn, spbrIn, delayIn, edgeClock, gap, lastClockOf, lastClock, lengthIn, during, waiting, waited, bitShown, wordOf, bitsRead, entryNo, commandNo, beginsAt, entriesBefore}
 use Rattle.qspi.specs.declared.Qspi.{Qspi}
 use Rattle.qspi.specs.declared.Pins.{Pins}
 
@@ -19,6 +22,16 @@ pub record Starting (q : Qspi) : Type 0 where
 abbrev pub Calm : (ℕ → Pins) → Type 0
 Calm pins = (c : ℕ) → selected (pins c) ≡ false
 
+-- The queue goes on after the entry that clock 1 takes: it isn't the one at ENDQP, or WREN is set.
+abbrev pub goesOn : Qspi → Bool
+goesOn q = not (eqb (entryAt q) (endqp (q .spcr2))) || wren (q .spcr2)
+
+-- SPIF has risen and SPE fallen, and the entry at ENDQP was the last.
+pub record QueueOver (q r : Qspi) : Type 0 where
+  pub off : spe (r .spcr1) ≡ false
+  pub risen : r .spif ≡ true
+  pub last : r .cptqp ≡ endqp (q .spcr2)
+
 -- Edge j falls at clock p + (j - 1) x SPBR: from that clock on, up to the next edge, j edges have fallen.
 abbrev pub EdgesFall : Type 0
 EdgesFall =
@@ -31,4 +44,76 @@ abbrev pub LastEdge : Type 0
 LastEdge =
     (q : Qspi) (pins : ℕ → Pins) → Starting q → Calm pins →
     run pins (lastClock (entry q)) q
-    ≡ completed (during (entry q) pins (bitsIn (entry q) * 2) (gap (entry q) 1))
+    ≡ completed (during (entry q) pins (bitsIn (entry q) * 2) (spbrIn (entry q)))
+
+-- MOSI shows the low n bits of the transmit word, highest first: with CPHA=0 bit i from edge 2i on, clock 1 for the first,
+-- with CPHA=1 from edge 2i + 1 on, up to the next; the last one still after edge 2n.
+abbrev pub MosiShows : Type 0
+MosiShows =
+    (q : Qspi) (pins : ℕ → Pins) → Starting q → Calm pins → (j d : ℕ) → j < bitsIn (entry q) * 2 →
+    d < gap (entry q) j → 0 < edgeClock (entry q) j + d → (cpha (q .spcr0) ≡ true → 0 < j) →
+    run pins (edgeClock (entry q) j + d) q .mosi
+    ≡ bit (bitsIn (entry q) - 1 - bitShown (cpha (q .spcr0)) j) (entry q .shift)
+
+abbrev pub MosiHolds : Type 0
+MosiHolds =
+    (q : Qspi) (pins : ℕ → Pins) → Starting q → Calm pins →
+    run pins (lastClock (entry q)) q .mosi ≡ bit 0 (entry q .shift)
+
+-- At edge 2n the bits that stood on MISO at the reading edges are stored as one word, and CPTQP set.
+abbrev pub WordStored : Type 0
+WordStored =
+    (q : Qspi) (pins : ℕ → Pins) → Starting q → Calm pins →
+    (run pins (lastClock (entry q)) q .receive
+    ≡ set (q .receive) (entryAt q) (wordOf (bitsRead (entry q) pins) (bitsIn (entry q))))
+    × (run pins (lastClock (entry q)) q .cptqp ≡ entryAt q)
+
+-- The unused bits of a word are zero, and the others are the bits in order.
+abbrev pub UnusedZero : Type 0
+UnusedZero = (bits : ℕ → Bool) (n : ℕ) → wordOf bits n < 2 ^ n
+
+abbrev pub BitsInOrder : Type 0
+BitsInOrder = (bits : ℕ → Bool) (n i : ℕ) → i < n → bit (n - 1 - i) (wordOf bits n) ≡ bits i
+
+-- With SPE still set after edge 2n the delay runs; with HALT clear the clock after it is clock 1 of the next entry.
+abbrev pub DelayRuns : Type 0
+DelayRuns =
+    (q : Qspi) (pins : ℕ → Pins) → Starting q → Calm pins → goesOn q ≡ true → (d : ℕ) → 0 < d →
+    d < delayIn (entry q) →
+    run pins (lastClock (entry q) + d) q ≡ waiting (run pins (lastClock (entry q)) q) (delayIn (entry q) - d)
+
+abbrev pub NextStarts : Type 0
+NextStarts =
+    (q : Qspi) (pins : ℕ → Pins) → Starting q → Calm pins → goesOn q ≡ true → halt (q .spcr3) ≡ false →
+    (run pins (lengthIn (entry q)) q ≡ waited (run pins (lastClock (entry q)) q))
+    × Starting (run pins (lengthIn (entry q)) q)
+
+-- The last entry without WREN ends at edge 2n: SPIF rises and SPE falls.
+abbrev pub QueueEnds : Type 0
+QueueEnds =
+    (q : Qspi) (pins : ℕ → Pins) → Starting q → Calm pins → goesOn q ≡ false →
+    (spe (run pins (lastClock (entry q)) q .spcr1) ≡ false) × (run pins (lastClock (entry q)) q .spif ≡ true)
+
+-- The entries run from the pointer to ENDQP modulo 16, each one's clock 1 after the delay of the one before.
+abbrev pub EntriesRun : Type 0
+EntriesRun =
+    (q : Qspi) (pins : ℕ → Pins) → Starting q → Calm pins → halt (q .spcr3) ≡ false → (k : ℕ) →
+    k ≤ entriesBefore q →
+    Starting (run pins (beginsAt q k) q) × (entryAt (run pins (beginsAt q k) q) ≡ entryNo q k)
+
+-- With WREN the entry after the one at ENDQP is 0, or NEWQP if WRTO.
+abbrev pub QueueWraps : Type 0
+QueueWraps =
+    (q : Qspi) (pins : ℕ → Pins) → Starting q → Calm pins → halt (q .spcr3) ≡ false →
+    entryAt q ≡ endqp (q .spcr2) → wren (q .spcr2) ≡ true →
+    (run pins (lastClock (entry q)) q .spif ≡ true)
+    × (entryAt (run pins (lengthIn (entry q)) q) ≡ wrapTo (q .spcr2))
+
+-- Without WREN the queue ends at edge 2n of the entry at ENDQP.
+abbrev pub LastOfQueue : Type 0
+LastOfQueue =
+    (q : Qspi) (pins : ℕ → Pins) → Starting q → Calm pins → halt (q .spcr3) ≡ false → wren (q .spcr2) ≡ false →
+    QueueOver q
+    (run pins
+    (beginsAt q (entriesBefore q) + lastClockOf (q .spcr0) (q .spcr1) (commandNo q (entriesBefore q)))
+    q)
