@@ -2,3 +2,4 @@ pub mod Bounds
 pub mod Edges
 pub mod Completed
 pub mod Mosi
+pub mod Word
