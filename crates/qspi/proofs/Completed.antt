@@ -1,6 +1,6 @@
 -- What the end of an entry keeps. Assumes nothing.
-use mathlib.Core.Path.{_≡_}
-use mathlib.Core.Bool.{Bool, true, false}
+use mathlib.Core.Path.{_≡_, refl}
+use mathlib.Core.Bool.{Bool, true, false, not, _||_, false≢true, true≢false}
 use Prim.Native.Nat.{_%_}
 use lib.Dec.{eqb}
 use Rattle.qspi.specs.Fields.{wren, endqp}
@@ -20,3 +20,37 @@ pub completed-keeps : {A : Type 0} (f : Qspi → A) (r : Qspi) → f (wrapped (s
 unfolding completed
 completed-keeps f r a b c =
     followed-keeps f (eqb (r .pointer % 16) (endqp (r .working))) (wren (r .working)) (stored r) a b c
+
+followed-on : {A : Type 0} (f : Qspi → A) (v : A) (last wrap : Bool) (r : Qspi) → not last || wrap ≡ true →
+    f (wrapped r) ≡ v → f (advanced r) ≡ v → f (followed last wrap r) ≡ v
+followed-on f v true true r h a c = a
+followed-on f v true false r h a c = absurd (false≢true h)
+followed-on f v false wrap r h a c = c
+
+-- Of the ways on, only the two that keep SPE set.
+pub completed-on : {A : Type 0} (f : Qspi → A) (v : A) (r : Qspi) →
+    not (eqb (r .pointer % 16) (endqp (r .working))) || wren (r .working) ≡ true → f (wrapped (stored r)) ≡ v →
+    f (advanced (stored r)) ≡ v → f (completed r) ≡ v
+unfolding completed
+completed-on f v r h a c =
+    followed-on f v (eqb (r .pointer % 16) (endqp (r .working))) (wren (r .working)) (stored r) h a c
+
+pub completed-next : (r : Qspi) → eqb (r .pointer % 16) (endqp (r .working)) ≡ false →
+    completed r ≡ advanced (stored r)
+unfolding completed
+completed-next r h = rw h
+
+pub completed-wraps : (r : Qspi) → eqb (r .pointer % 16) (endqp (r .working)) ≡ true → wren (r .working) ≡ true →
+    completed r ≡ wrapped (stored r)
+unfolding completed
+completed-wraps r h k = rw (h, k)
+
+pub completed-ends : (r : Qspi) → not (eqb (r .pointer % 16) (endqp (r .working))) || wren (r .working) ≡ false →
+    completed r ≡ finished (stored r)
+unfolding completed
+completed-ends r h = ends (eqb (r .pointer % 16) (endqp (r .working))) (wren (r .working)) (stored r) h
+  where
+    ends : (last wrap : Bool) (r : Qspi) → not last || wrap ≡ false → followed last wrap r ≡ finished r
+    ends true true r h = absurd (true≢false h)
+    ends true false r h = refl
+    ends false wrap r h = absurd (true≢false h)

@@ -18,7 +18,7 @@ and-false : (b : Bool) → b && false ≡ false
 and-false true = refl
 and-false false = refl
 
-no-fault : (q : Qspi) (pins : Pins) → selected pins ≡ false → faultNow q pins ≡ false
+pub no-fault : (q : Qspi) (pins : Pins) → selected pins ≡ false → faultNow q pins ≡ false
 no-fault q pins h = rw h (and-false (spe (q .spcr1) && mstr (q .spcr0)))
 
 pub clock-playing : (q : Qspi) (pins : Pins) → spe (q .spcr1) ≡ true → q .playing ≡ true → selected pins ≡ false →
@@ -133,7 +133,7 @@ run-entry : (q : Qspi) (pins : ℕ → Pins) → Starting q → Calm pins → (c
 run-entry q pins s calm zero h = absurd (omega arith)
 run-entry q pins s calm (suc c) h = same-run q pins s calm c
 
-and-left : (a b : Bool) → a && b ≡ true → a ≡ true
+pub and-left : (a b : Bool) → a && b ≡ true → a ≡ true
 and-left true b h = refl
 and-left false b h = h
 

@@ -3,3 +3,4 @@ pub mod Edges
 pub mod Completed
 pub mod Mosi
 pub mod Word
+pub mod Delay

@@ -121,7 +121,7 @@ module _ (q : Qspi) (pins : ℕ → Pins) (few : bitsIn (entry q) ≤ 16) where
   all-bits : collectedBy (entry q) pins (bitsIn (entry q) * 2) ≡ wordOf (bitsRead (entry q) pins) (bitsIn (entry q))
   all-bits = by-phase (cpha (q .spcr0)) refl
 
-entry-small : (q : Qspi) → entryAt q % 16 ≡ entryAt q
+pub entry-small : (q : Qspi) → entryAt q % 16 ≡ entryAt q
 entry-small q = by-pending (q .pending)
   where
     by-pending : (b : Bool) → cond b (q .spcr2 % 16) (q .pointer % 16) % 16 ≡ cond b (q .spcr2 % 16) (q .pointer % 16)
