@@ -4,3 +4,4 @@ pub mod Completed
 pub mod Mosi
 pub mod Word
 pub mod Delay
+pub mod Order
