@@ -1,4 +1,5 @@
 // The queue side of the module: SPCR0 to SPCR3, SPSR, the queue RAM, and the queue clock by clock.
+pub mod clocks;
 pub mod fields;
 pub mod outputs;
 pub mod queue;

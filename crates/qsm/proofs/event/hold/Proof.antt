@@ -1,0 +1,9 @@
+use borrow.Author.Needs.{needs}
+use Rattle.qsm.proofs.event.hold.Statement.{statement}
+use Rattle.qsm.proofs.event.hold.Tie as tie
+
+returns : tie.Need-returns
+returns c = rw (c .answered .ensures, c .before .holds .ensures)
+
+pub hold-spec : {M : Type 1} → statement M
+hold-spec = tie.close (tie.spec (λ c κs. search needs) (λ c κs. search needs) returns)

@@ -1,0 +1,9 @@
+use borrow.Author.Needs.{needs}
+use Rattle.qsm.proofs.event.read.Statement.{statement}
+use Rattle.qsm.proofs.event.read.Tie as tie
+
+returns : tie.Need-returns
+returns c = rw (c .answered .ensures, c .before .reads .ensures)
+
+pub read-spec : {M : Type 1} → statement M
+read-spec = tie.close (tie.spec (λ c κs. search needs) (λ c κs. search needs) returns)

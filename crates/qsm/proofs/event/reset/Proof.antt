@@ -1,0 +1,11 @@
+use Rattle.qsm.specs.Event.{resets}
+use borrow.Author.Needs.{needs}
+use Rattle.qsm.proofs.event.reset.Statement.{statement}
+use Rattle.qsm.proofs.event.reset.Tie as tie
+
+returns : tie.Need-returns
+unfolding resets
+returns c = rw (c .answered .ensures, c .before .done .ensures, c .before .before .reset .ensures)
+
+pub reset-spec : {M : Type 1} → statement M
+reset-spec = tie.close (tie.spec (λ c κs. search needs) (λ c κs. search needs) (λ c κs. search needs) returns)

@@ -1,0 +1,9 @@
+use borrow.Author.Needs.{needs}
+use Rattle.qsm.proofs.event.step.Statement.{statement}
+use Rattle.qsm.proofs.event.step.Tie as tie
+
+returns : tie.Need-returns
+returns c = rw (c .answered .ensures, c .before .does .ensures)
+
+pub step-spec : {M : Type 1} → statement M
+step-spec = tie.close (tie.spec (λ c κs. search needs) (λ c κs. search needs) returns)

@@ -1,0 +1,52 @@
+use Rattle.qsm.specs.Queue.{touchQueue}
+use borrow.Author.Needs.{needs}
+use Rattle.qsm.proofs.queue.touch_queue.Statement.{statement}
+use Rattle.qsm.proofs.queue.touch_queue.Tie as tie
+
+returns : tie.Need-returns
+unfolding touchQueue
+returns c = rw (c .enum-told .given .1)
+
+returns-2 : tie.Need-returns-2
+unfolding touchQueue
+returns-2 c = rw (c .enum-told2 .given .1)
+
+returns-3 : tie.Need-returns-3
+unfolding touchQueue
+returns-3 c = rw (c .enum-told3 .given .1)
+
+returns-4 : tie.Need-returns-4
+unfolding touchQueue
+returns-4 c = rw (c .status-touched .ensures, c .before .enum-told4 .given .1)
+
+returns-5 : tie.Need-returns-5
+unfolding touchQueue
+returns-5 c = rw (c .enum-told5 .given .1)
+
+returns-6 : tie.Need-returns-6
+unfolding touchQueue
+returns-6 c = rw (c .enum-told6 .given .1)
+
+returns-7 : tie.Need-returns-7
+unfolding touchQueue
+returns-7 c = rw (c .enum-told7 .given .1)
+
+pub touch-queue-spec : {M : Type 1} → statement M
+touch-queue-spec =
+    tie.close
+    (tie.spec
+    (λ c. search needs)
+    (λ c. search needs)
+    (λ c. search needs)
+    (λ c. search needs)
+    (λ c κs. search needs)
+    (λ c. search needs)
+    (λ c. search needs)
+    (λ c. search needs)
+    returns
+    returns-2
+    returns-3
+    returns-4
+    returns-5
+    returns-6
+    returns-7)

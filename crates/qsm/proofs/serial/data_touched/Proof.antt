@@ -1,0 +1,12 @@
+use borrow.Author.Needs.{needs}
+use Rattle.qsm.proofs.serial.data_touched.Statement.{statement}
+use Rattle.qsm.proofs.serial.data_touched.Tie as tie
+
+returns : tie.Need-returns
+returns c = rw (c .data-read .ensures, c .before .if1 .taken)
+
+returns-2 : tie.Need-returns-2
+returns-2 c = rw (c .if1 .left)
+
+pub data-touched-spec : {M : Type 1} → statement M
+data-touched-spec = tie.close (tie.spec (λ c κs. search needs) returns returns-2)

@@ -1,0 +1,136 @@
+-- Document 01: events and answers. An event is a reset, a hold or an access, and an access is a read or a write.
+use mathlib.Core.Bool.{Bool, true, false, cond}
+use Prim.Native.Nat.{ℕ, _+_, _*_, _/_, _%_}
+use lib.Dec.{eqb}
+use Rattle.steps.specs.Iterate.{iterate}
+use Rattle.sci.specs.Serial.{clocked}
+use Rattle.sci.specs.Serial as serial
+use Rattle.qspi.specs.Queue.{clock}
+use Rattle.qspi.specs.Outputs as queue
+use Rattle.qspi.specs.declared.Pins.{Pins}
+use Rattle.qsm.specs.State.{resetModule}
+use Rattle.qsm.specs.Pins.{outputs, mask, levels}
+use Rattle.qsm.specs.Request.{request}
+use Rattle.qsm.specs.Word.{peek, touch, put}
+use Rattle.qsm.specs.Target.{target, firstHalf, secondHalf}
+use Rattle.qsm.specs.Decision.{refusalOf, permits, decideRead, halfWritten, decideWrite}
+use Rattle.qsm.specs.declared.state.Module.{Module}
+use Rattle.qsm.specs.declared.target.Target.{Target}
+use Rattle.qsm.specs.declared.decision.Decision.{Decision}
+use Rattle.qsm.specs.declared.request.Request.{Request}
+use Rattle.qsm.specs.declared.event.Access.{Access}
+use Rattle.qsm.specs.declared.event.Access.the-variants.{Read, Write}
+use Rattle.qsm.specs.declared.event.Event.{Event}
+use Rattle.qsm.specs.declared.event.Event.the-variants.{Reset, Hold}
+use Rattle.qsm.specs.declared.event.Event.the-variants as event
+use Rattle.qsm.specs.declared.event.Answer.{Answer}
+use Rattle.qsm.specs.declared.event.Done.{Done}
+use Rattle.qsm.specs.declared.event.Stepped.{Stepped}
+
+-- An answer shows the pins and the request of the module that it leaves.
+unfoldable pub answerOf : Module → ℕ → ℕ → Answer
+answerOf m refusal value =
+    let asked : Request = request (queue.asks (m .qspi)) (serial.asks (m .sci)) (m .qilr) (m .qivr) in
+    record {
+      refusal = refusal;
+      value = value;
+      levels = levels (outputs m);
+      mask = mask (outputs m);
+      level = asked .level;
+      vector = asked .vector;
+    }
+
+-- What an event leaves, with the refusal's number and the value read; and its answer.
+abbrev pub done : Module → ℕ → ℕ → Done
+done m refusal value = record { state = m; refusal = refusal; value = value }
+
+abbrev pub answered : Done → Stepped
+answered d = record { state = d .state; answer = answerOf (d .state) (d .refusal) (d .value) }
+
+-- The pins as the queue sees them.
+abbrev pub pinsOf : Module → Pins
+pinsOf m = record { levels = m .inputs; pqspar = m .pqspar; ddrqs = m .ddrqs }
+
+-- Each clock: pins, mode fault, queue, then on a sample transmitter before receiver.
+unfoldable pub clockModule : Bool → Module → Module
+clockModule rxd m =
+    record {
+      sci = clocked (m .sci) rxd;
+      qspi = clock (m .qspi) (pinsOf m);
+      qsmcr = m .qsmcr;
+      qilr = m .qilr;
+      qivr = m .qivr;
+      portqs = m .portqs;
+      pqspar = m .pqspar;
+      ddrqs = m .ddrqs;
+      inputs = m .inputs;
+    }
+
+unfoldable pub clocks : Module → Bool → ℕ → Module
+clocks m rxd n = iterate n (clockModule rxd) m
+
+-- A hold's levels are taken at once.
+abbrev pub held : Module → ℕ → Module
+held m pins =
+    record {
+      sci = m .sci;
+      qspi = m .qspi;
+      qsmcr = m .qsmcr;
+      qilr = m .qilr;
+      qivr = m .qivr;
+      portqs = m .portqs;
+      pqspar = m .pqspar;
+      ddrqs = m .ddrqs;
+      inputs = pins;
+    }
+
+-- A byte, a word, or two words of which the second is read after the first.
+abbrev pub readValue : Module → Target → ℕ → ℕ
+readValue m t width =
+    cond (eqb width 1) (cond (t .upper) (peek m (t .first) / 256) (peek m (t .first) % 256))
+    (cond (t .long) (peek m (t .first) * 65536 + peek (touch m (t .first) (t .lower)) (t .second)) (peek m (t .first)))
+
+abbrev pub readDone : Module → Target → Module
+readDone m t =
+    cond (t .long) (touch (touch m (t .first) (t .lower)) (t .second) true) (touch m (t .first) (t .lower))
+
+-- What is refused or blocked gives value 0 and leaves the module as it was.
+unfoldable pub refused : Decision → Module → Done
+refused d m = done m (refusalOf d) 0
+
+abbrev pub readDecided : Decision → Module → Target → ℕ → Done
+readDecided d m t width = cond (permits d) (done (readDone m t) 0 (readValue m t width)) (refused d m)
+
+abbrev pub writeDone : Module → Target → ℕ → ℕ → Module
+writeDone m t v low = cond (t .long) (put (halfWritten m t v) (t .second) low true true) (halfWritten m t v)
+
+abbrev pub writeDecided : Decision → Module → Target → ℕ → ℕ → Done
+writeDecided d m t v low = cond (permits d) (done (writeDone m t v low) 0 0) (refused d m)
+
+unfoldable pub resets : Done
+resets = done resetModule 0 0
+
+unfoldable pub holds : Module → ℕ → Bool → ℕ → Done
+holds m pins rxd n = done (clocks (held m pins) rxd n) 0 0
+
+unfoldable pub reads : Module → Bool → ℕ → ℕ → Done
+reads m supervisor width offset =
+    readDecided (decideRead m supervisor width offset) m (target width offset) width
+
+unfoldable pub writes : Module → Bool → ℕ → ℕ → ℕ → Done
+writes m supervisor width offset value =
+    writeDecided (decideWrite m supervisor width offset value) m (target width offset) (firstHalf width value)
+    (secondHalf value)
+
+abbrev pub accesses : Module → Access → Done
+accesses m (Read supervisor width offset) = reads m supervisor width offset
+accesses m (Write supervisor width offset value) = writes m supervisor width offset value
+
+unfoldable pub does : Module → Event → Done
+does m Reset = resets
+does m (Hold pins rxd n) = holds m pins rxd n
+does m (event.Access a) = accesses m a
+
+-- The step from one event to the next.
+abbrev pub step : Module → Event → Stepped
+step m e = answered (does m e)

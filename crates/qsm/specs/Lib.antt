@@ -1,0 +1,11 @@
+pub mod Map
+pub mod State
+pub mod Pins
+pub mod Request
+pub mod Own
+pub mod Serial
+pub mod Queue
+pub mod Word
+pub mod Target
+pub mod Decision
+pub mod Event

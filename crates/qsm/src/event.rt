@@ -1,0 +1,280 @@
+// Events, answers and the step: reset, hold, read and write.
+ghost use mathlib.Core.Path.{_≡_};
+ghost use Rattle.qsm.specs.Word.{peek, touch};
+ghost use Rattle.qsm.specs.Event.{answerOf, done, refused, answered, clocks, held, readValue, readDone, readDecided, writeDone, writeDecided, resets, holds, reads, writes, accesses, does, step};
+use crate::decision::Decision;
+use crate::decision::permits;
+use crate::decision::refusal_of;
+use crate::pins::outputs_of;
+use crate::request::request_of;
+use crate::state::Module;
+use crate::target::Target;
+use crate::target::first_half;
+use crate::target::second_half;
+use crate::target::target_of;
+
+// An access is a read or a write: as supervisor or as user, a width in bytes, an offset from the module's base; and a value to write.
+pub enum Access {
+    Read(bool, u8, u16),
+    Write(bool, u8, u16, u32),
+}
+
+// An event is a reset, a hold of pin levels, an RXD level and so many clocks, or an access.
+pub enum Event {
+    Reset,
+    Hold(u8, bool, u16),
+    Access(Access),
+}
+
+// The refusal's number or 0, the value read, the driven levels and which pins are driven, the request's level and its vector.
+pub struct Answer {
+    pub refusal: u8,
+    pub value: u32,
+    pub levels: u8,
+    pub mask: u8,
+    pub level: u8,
+    pub vector: u8,
+}
+
+// What an event leaves, before its answer.
+pub struct Done {
+    pub state: Module,
+    pub refusal: u8,
+    pub value: u32,
+}
+
+pub struct Stepped {
+    pub state: Module,
+    pub answer: Answer,
+}
+
+impl Module {
+    fn answer(self, refusal: u8, value: u32) -> Answer
+        ensures { λ r. ⌜ r ≡ answerOf self refusal value ⌝ }
+    {
+        let sci = self.sci;
+        let qspi = self.qspi;
+        let pins = outputs_of(self);
+        let asked = request_of(qspi.asks(), sci.asks(), self.qilr, self.qivr);
+        Answer {
+            refusal,
+            value,
+            levels: pins.levels(),
+            mask: pins.mask(),
+            level: asked.level,
+            vector: asked.vector,
+        }
+    }
+
+    fn done(self, refusal: u8, value: u32) -> Done
+        ensures { λ r. ⌜ r ≡ done self refusal value ⌝ }
+    {
+        Done {
+            state: self,
+            refusal,
+            value,
+        }
+    }
+
+    fn refused(self, d: Decision) -> Done
+        ensures { λ r. ⌜ r ≡ refused d self ⌝ }
+    {
+        self.done(refusal_of(d), 0)
+    }
+
+    // So many clocks at the levels of the last hold and a level on RXD. The halves don't depend on each other within a hold.
+    fn clocks(mut self, rxd: bool, n: u16) -> Module
+        ensures { λ r. ⌜ r ≡ clocks self rxd n ⌝ }
+    {
+        let pins = qspi::Pins {
+            levels: self.inputs,
+            pqspar: self.pqspar,
+            ddrqs: self.ddrqs,
+        };
+        let qspi = self.qspi;
+        let sci = self.sci;
+        let queue = qspi.clocks(n, pins);
+        let serial = sci.clocks(n, rxd);
+        self.qspi = queue;
+        self.sci = serial;
+        self
+    }
+
+    fn held(mut self, pins: u8) -> Module
+        ensures { λ r. ⌜ r ≡ held self pins ⌝ }
+    {
+        self.inputs = pins;
+        self
+    }
+
+    // The second word of a long, which is read after the first.
+    fn second_value(self, t: Target) -> u16
+        ensures { λ r. ⌜ r ≡ peek (touch self (t .first) (t .lower)) (t .second) ⌝ }
+    {
+        let first = t.first;
+        let second = t.second;
+        self.touch(first, t.lower).peek(second)
+    }
+
+    // What a permitted read gives: a byte, a word, or two words.
+    fn read_value(self, t: Target, width: u8) -> u32
+        ensures { λ r. ⌜ r ≡ readValue self t width ⌝ }
+    {
+        let first = t.first;
+        let w = self.peek(first) as u32;
+        if width == 1 {
+            if t.upper { w / 256 } else { w % 256 }
+        } else {
+            if t.long {
+                w * 65536 + (self.second_value(t) as u32)
+            } else {
+                w
+            }
+        }
+    }
+
+    // What a permitted read leaves.
+    fn read_done(self, t: Target) -> Module
+        ensures { λ r. ⌜ r ≡ readDone self t ⌝ }
+    {
+        let first = t.first;
+        let half = self.touch(first, t.lower);
+        if t.long {
+            let second = t.second;
+            half.touch(second, true)
+        } else {
+            half
+        }
+    }
+
+    fn read_decided(self, d: Decision, t: Target, width: u8) -> Done
+        ensures { λ r. ⌜ r ≡ readDecided d self t width ⌝ }
+    {
+        if permits(d) {
+            let value = self.read_value(t, width);
+            self.read_done(t).done(0, value)
+        } else {
+            self.refused(d)
+        }
+    }
+
+    // What a permitted write leaves.
+    fn write_done(self, t: Target, v: u16, low: u16) -> Module
+        ensures { λ r. ⌜ r ≡ writeDone self t v low ⌝ }
+    {
+        let half = self.half_written(t, v);
+        if t.long {
+            let second = t.second;
+            half.put(second, low, true, true)
+        } else {
+            half
+        }
+    }
+
+    fn write_decided(self, d: Decision, t: Target, v: u16, low: u16) -> Done
+        ensures { λ r. ⌜ r ≡ writeDecided d self t v low ⌝ }
+    {
+        if permits(d) {
+            self.write_done(t, v, low).done(0, 0)
+        } else {
+            self.refused(d)
+        }
+    }
+
+    fn holds(self, pins: u8, rxd: bool, clocks: u16) -> Done
+        ensures { λ r. ⌜ r ≡ holds self pins rxd clocks ⌝ }
+    {
+        self.held(pins).clocks(rxd, clocks).done(0, 0)
+    }
+
+    fn reads(self, supervisor: bool, width: u8, offset: u16) -> Done
+        ensures { λ r. ⌜ r ≡ reads self supervisor width offset ⌝ }
+    {
+        let d = self.decide_read(supervisor, width, offset);
+        self.read_decided(d, target_of(width, offset), width)
+    }
+
+    fn writes(self, supervisor: bool, width: u8, offset: u16, value: u32) -> Done
+        ensures { λ r. ⌜ r ≡ writes self supervisor width offset value ⌝ }
+    {
+        let d = self.decide_write(supervisor, width, offset, value);
+        self.write_decided(
+            d,
+            target_of(width, offset),
+            first_half(width, value),
+            second_half(value),
+        )
+    }
+
+    fn accesses(self, a: Access) -> Done
+        ensures { λ r. ⌜ r ≡ accesses self a ⌝ }
+    {
+        match a {
+            Access::Read(supervisor, width, offset) => self.reads(supervisor, width, offset),
+            Access::Write(supervisor, width, offset, value) => self.writes(
+                supervisor,
+                width,
+                offset,
+                value,
+            ),
+        }
+    }
+
+    fn does(self, e: Event) -> Done
+        ensures { λ r. ⌜ r ≡ does self e ⌝ }
+    {
+        match e {
+            Event::Reset => Module::reset().done(0, 0),
+            Event::Hold(pins, rxd, clocks) => self.holds(pins, rxd, clocks),
+            Event::Access(a) => self.accesses(a),
+        }
+    }
+}
+
+impl Done {
+    fn answered(self) -> Stepped
+        ensures { λ r. ⌜ r ≡ answered self ⌝ }
+    {
+        let state = self.state;
+        Stepped {
+            state,
+            answer: state.answer(self.refusal, self.value),
+        }
+    }
+}
+
+// Ruled out: a module that keeps a register; an answer other than that of the module after it.
+pub fn reset() -> Stepped
+    ensures { λ r. ⌜ r ≡ answered resets ⌝ }
+{
+    Module::reset().done(0, 0).answered()
+}
+
+// Ruled out: only the first clock played; the levels of the hold before it.
+pub fn hold(m: Module, pins: u8, rxd: bool, clocks: u16) -> Stepped
+    ensures { λ r. ⌜ r ≡ answered (holds m pins rxd clocks) ⌝ }
+{
+    m.holds(pins, rxd, clocks).answered()
+}
+
+// Ruled out: every read answered 0; a blocked user's read with a side effect.
+pub fn read(m: Module, supervisor: bool, width: u8, offset: u16) -> Stepped
+    ensures { λ r. ⌜ r ≡ answered (reads m supervisor width offset) ⌝ }
+{
+    m.reads(supervisor, width, offset).answered()
+}
+
+// Ruled out: every write refused; a refused write that leaves its first half.
+pub fn write(m: Module, supervisor: bool, width: u8, offset: u16, value: u32) -> Stepped
+    ensures { λ r. ⌜ r ≡ answered (writes m supervisor width offset value) ⌝ }
+{
+    m.writes(supervisor, width, offset, value).answered()
+}
+
+// The step from one event to the next.
+// Ruled out: events ignored; a hold taken for a reset.
+pub fn step(m: Module, e: Event) -> Stepped
+    ensures { λ r. ⌜ r ≡ step m e ⌝ }
+{
+    m.does(e).answered()
+}

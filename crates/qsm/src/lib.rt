@@ -1,0 +1,13 @@
+// The module: the register map, refusals 1 to 4 and privilege, pins and requests, and the step from one event to the next. It uses the
+// two halves by their contracts alone.
+pub mod decision;
+pub mod event;
+pub mod map;
+pub mod own;
+pub mod pins;
+pub mod queue;
+pub mod request;
+pub mod serial;
+pub mod state;
+pub mod target;
+pub mod word;

@@ -1,0 +1,37 @@
+// The state of the module, and its reset.
+ghost use mathlib.Core.Path.{_≡_};
+ghost use Rattle.qsm.specs.State.{resetModule};
+use qspi::Qspi;
+use sci::serial::Sci;
+
+pub struct Module {
+    pub sci: Sci,
+    pub qspi: Qspi,
+    pub qsmcr: u16,
+    pub qilr: u8,
+    pub qivr: u8,
+    pub portqs: u8,
+    pub pqspar: u8,
+    pub ddrqs: u8,
+    // The pin levels of the last hold; 0 from a reset to a hold.
+    pub inputs: u8,
+}
+
+impl Module {
+    // Ruled out: SUPV clear; a half kept.
+    pub fn reset() -> Module
+        ensures { λ r. ⌜ r ≡ resetModule ⌝ }
+    {
+        Module {
+            sci: Sci::reset(),
+            qspi: Qspi::reset(),
+            qsmcr: 0x0080,
+            qilr: 0,
+            qivr: 0x0F,
+            portqs: 0,
+            pqspar: 0,
+            ddrqs: 0,
+            inputs: 0,
+        }
+    }
+}
