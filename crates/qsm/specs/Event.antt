@@ -132,5 +132,5 @@ does m (Hold pins rxd n) = holds m pins rxd n
 does m (event.Access a) = accesses m a
 
 -- The step from one event to the next.
-abbrev pub step : Module → Event → Stepped
+unfoldable pub step : Module → Event → Stepped
 step m e = answered (does m e)

@@ -1,8 +1,10 @@
+use Rattle.qsm.specs.Event.{step}
 use borrow.Author.Needs.{needs}
 use Rattle.qsm.proofs.event.step.Statement.{statement}
 use Rattle.qsm.proofs.event.step.Tie as tie
 
 returns : tie.Need-returns
+unfolding step
 returns c = rw (c .answered .ensures, c .before .does .ensures)
 
 pub step-spec : {M : Type 1} → statement M
