@@ -1,0 +1,85 @@
+-- The laws of specs/Laws, each by induction over the records. Assumes nothing.
+use mathlib.Core.Path.{_≡_, refl, sym, ap, subst, _∙_}
+use mathlib.Core.Bool.{Bool, true, false, cond}
+use mathlib.Core.List.{List, [], _∷_, _++_, append-assoc, append-nil, flatten}
+use Prim.Native.Nat.{ℕ, zero, suc, _+_, _-_, _*_, _<_, _≤_}
+use native.Mathlib.Omega.{arith}
+use lib.Dec.{ltb}
+use lib.ListN.{length, take, drop, take-append-drop, length-append, length-drop, drop-of-length-le}
+use lib.Seq.{length-take-le, take-append-le, drop-append-le, drop-drop, take-at, drop-at}
+use borrow.Author.Tests.{le-ltb}
+use Rattle.qsm.specs.declared.state.Module.{Module}
+use Rattle.qsm.specs.declared.event.Event.{Event}
+use Rattle.qsm.specs.Event.{step}
+use Rattle.trace.specs.Trace.{parsed, answerLength}
+use Rattle.trace.specs.Play.{Outcome, stopped, answered, followed, turn, play}
+use Rattle.trace.specs.Laws.{TenBytesEach, AnswersFit, unread, RecordsRead, ReadToTheEnd, unstopped, EarlierStand, Resumes, InParts}
+use Rattle.trace.specs.declared.Parsed.the-variants.{Record}
+use Rattle.trace.proofs.Playing.{play-none, one-on, followed-assoc, record-kept, record-alone, played}
+
+pub ten-bytes-each : TenBytesEach
+ten-bytes-each =
+    played (λ m t room o. length (o .answers) ≡ answerLength * length (o .records)) (λ m t room why end. omega arith)
+    (λ m t room e n o is pos le fits h. omega (arith, h))
+
+pub answers-fit : AnswersFit
+answers-fit =
+    played (λ m t room o. length (o .answers) ≤ room) (λ m t room why end. omega arith)
+    (λ m t room e n o is pos le fits h. omega (arith, h))
+
+-- What one record and what follows it leave is what the latter leaves of the rest.
+unread-next : (m : Module) (t : List ℕ) (e : Event) (n : ℕ) (o : Outcome) → n ≤ length t → unread (followed (answered (step m e) (take n t)) o) t ≡ unread o (drop n t)
+unfolding flatten
+unread-next m t e n o le =
+    ap (λ (k : ℕ). drop k t) (length-append (take n t) (flatten (o .records)) ∙ ap (λ (k : ℕ). k + length (flatten (o .records))) (length-take-le n t le))
+    ∙ sym (drop-drop (length (flatten (o .records))) n t)
+
+pub records-read : RecordsRead
+unfolding flatten
+records-read =
+    played (λ m t room o. flatten (o .records) ++ unread o t ≡ t) (λ m t room why end. refl)
+    (λ m t room e n o is pos le fits h.
+    append-assoc (take n t) (flatten (o .records)) _ ∙ ap (λ (l : List ℕ). take n t ++ (flatten (o .records) ++ l)) (unread-next m t e n o le)
+    ∙ ap (λ (l : List ℕ). take n t ++ l) h ∙ take-append-drop n t)
+
+nothing : (t : List ℕ) → length t ≡ 0 → [] ≡ t
+nothing [] h = refl
+nothing (x ∷ t) h = absurd (omega arith)
+
+pub read-to-the-end : ReadToTheEnd
+unfolding flatten
+read-to-the-end =
+    played (λ m t room o. o .stop ≡ 0 → flatten (o .records) ≡ t) (λ m t room why end z. nothing t (end z))
+    (λ m t room e n o is pos le fits h z. ap (λ (l : List ℕ). take n t ++ l) (h z) ∙ take-append-drop n t)
+
+pub earlier-stand : EarlierStand
+unfolding flatten
+earlier-stand =
+    played (λ m t room o. play m (flatten (o .records)) room ≡ unstopped o) (λ m t room why end. play-none m [] room refl)
+    (λ m t room e n o is pos le fits h.
+    let r = take n t in
+    let rs = flatten (o .records) in
+    one-on m (r ++ rs) room e n (record-kept r rs (record-alone t is)) fits
+    ∙ simp (take-at r rs n (length-take-le n t le), drop-at r rs n (length-take-le n t le)) (ap (followed (answered (step m e) r)) h))
+
+pub resumes : Resumes
+unfolding flatten
+resumes m t u room more =
+    played
+    (λ m t room o. play m (t ++ u) (length (o .answers) + more) ≡ followed o (play (o .state) (unread o t ++ u) more))
+    (λ m t room why end. let none : 0 + more ≡ more = omega arith in ap (play m (t ++ u)) none)
+    (λ m t room e n o is pos le fits h.
+    let a = answered (step m e) (take n t) in
+    let left : length (followed a o .answers) + more - answerLength ≡ length (o .answers) + more = omega arith in
+    one-on m (t ++ u) _ e n (record-kept t u is) (omega arith)
+    ∙ simp (take-append-le n t u le, drop-append-le n t u le, left) (ap (followed a) h)
+    ∙ sym (followed-assoc a o (play (o .state) (unread o (drop n t) ++ u) more))
+    ∙ ap (λ (l : List ℕ). followed (followed a o) (play (o .state) (l ++ u) more)) (sym (unread-next m t e n o le)))
+    m t room
+
+pub in-parts : InParts
+in-parts m t u room z =
+    let o = play m t room in
+    let all : unread o t ≡ [] = drop-of-length-le t {i = length (flatten (o .records))} (omega (arith, ap length (read-to-the-end m t room z))) in
+    ap (play m (t ++ u)) (omega (arith, answers-fit m t room)) ∙ resumes m t u room (room - length (o .answers))
+    ∙ ap (λ (l : List ℕ). followed o (play (o .state) (l ++ u) (room - length (o .answers)))) all

@@ -1,0 +1,79 @@
+-- Document 01, Trace and refusals 5 to 7: what playing a trace into so much room answers and leaves.
+use mathlib.Core.Path.{_≡_}
+use mathlib.Core.Bool.{cond}
+use mathlib.Core.List.{List, [], _∷_, _++_, flatten}
+use Prim.Native.Nat.{ℕ, zero, suc, _-_, _*_}
+use lib.Dec.{eqb, ltb}
+use lib.ListN.{length, take, drop}
+use Rattle.qsm.specs.Event.{step}
+use Rattle.qsm.specs.declared.state.Module.{Module}
+use Rattle.qsm.specs.declared.event.Stepped.{Stepped}
+use Rattle.trace.specs.Trace.{parsed, answerLength, answerBytes}
+use Rattle.trace.specs.declared.Parsed.{Parsed}
+use Rattle.trace.specs.declared.Parsed.the-variants.{Record, Unknown, Cut}
+use Rattle.trace.specs.declared.Stop.{Stop}
+use Rattle.trace.specs.declared.Stop.the-variants.{End, UnknownKind, CutRecord, NoRoom}
+use Rattle.trace.specs.declared.Played.{Played}
+
+-- The refusal that stopped a trace, or 0 at its end.
+abbrev pub stopNumber : Stop → ℕ
+stopNumber End = 0
+stopNumber UnknownKind = 5
+stopNumber CutRecord = 6
+stopNumber NoRoom = 7
+
+-- The refusal of what is no whole record.
+abbrev pub refusalOf : Parsed → ℕ
+refusalOf (Record e n) = 0
+refusalOf Unknown = 5
+refusalOf Cut = 6
+
+-- The module that is left, the records answered, the bytes of their answers, and the refusal that stopped the trace or 0.
+pub record Outcome : Type 0 where
+  pub state : Module
+  pub records : List (List ℕ)
+  pub answers : List ℕ
+  pub stop : ℕ
+
+-- The trace stops before a record: the module stays as it is.
+abbrev pub stopped : Module → ℕ → Outcome
+stopped m why = record { state = m; records = []; answers = []; stop = why }
+
+-- A record that is answered.
+abbrev pub answered : Stepped → List ℕ → Outcome
+answered s r = record { state = s .state; records = r ∷ []; answers = answerBytes (s .answer); stop = 0 }
+
+-- One part of a trace and then the next: earlier answers stand.
+abbrev pub followed : Outcome → Outcome → Outcome
+followed o p =
+    record {
+      state = p .state;
+      records = o .records ++ p .records;
+      answers = o .answers ++ p .answers;
+      stop = p .stop;
+    }
+
+-- What comes of the record at the start of t, in the order 5, 6, 7; `on` plays what follows it.
+abbrev pub turn : (Module → List ℕ → ℕ → Outcome) → Module → List ℕ → ℕ → Parsed → Outcome
+turn on m t room (Record e n) =
+    cond (ltb room answerLength) (stopped m 7)
+    (followed (answered (step m e) (take n t)) (on (step m e .state) (drop n t) (room - answerLength)))
+turn on m t room Unknown = stopped m 5
+turn on m t room Cut = stopped m 6
+
+-- At most so many records.
+unfoldable pub playFor : ℕ → Module → List ℕ → ℕ → Outcome
+playFor zero m t room = stopped m 0
+playFor (suc k) m t room = cond (eqb (length t) 0) (stopped m 0) (turn (playFor k) m t room (parsed t))
+
+-- The trace t into so much room. A record has at least one byte, so there are no more records than bytes.
+abbrev pub play : Module → List ℕ → ℕ → Outcome
+play m t room = playFor (length t) m t room
+
+-- What `play` answers, and what it leaves of a lent output: the answers, and past them what stood there.
+pub record Plays (o : Outcome) (lent : List ℕ) (r : Played) (left : List ℕ) : Type 0 where
+  pub state : r .state ≡ o .state
+  pub read : r .read ≡ length (flatten (o .records))
+  pub written : r .written ≡ answerLength * length (o .records)
+  pub stop : stopNumber (r .stop) ≡ o .stop
+  pub output : left ≡ o .answers ++ drop (r .written) lent

@@ -1,0 +1,84 @@
+-- Document 01, Trace: a kind byte, then a body of fixed length; each record gives ten bytes. Fields are big-endian.
+use mathlib.Core.Bool.{Bool, not, cond}
+use mathlib.Core.List.{List, [], _∷_}
+use Prim.Native.Nat.{ℕ, _+_, _*_, _/_, _%_}
+use lib.Dec.{eqb, ltb, leb}
+use lib.ListN.{length, getD}
+use Rattle.steps.specs.Bits.{word}
+use Rattle.qsm.specs.declared.event.Access.the-variants.{Read, Write}
+use Rattle.qsm.specs.declared.event.Event.{Event}
+use Rattle.qsm.specs.declared.event.Event.the-variants.{Reset, Hold}
+use Rattle.qsm.specs.declared.event.Event.the-variants as event
+use Rattle.qsm.specs.declared.event.Answer.{Answer}
+use Rattle.trace.specs.declared.Parsed.{Parsed}
+use Rattle.trace.specs.declared.Parsed.the-variants.{Record, Unknown, Cut}
+
+-- The byte, the word and the long that start at place i.
+abbrev pub byteAt : List ℕ → ℕ → ℕ
+byteAt t i = getD t i 0
+
+abbrev pub wordAt : List ℕ → ℕ → ℕ
+wordAt t i = word (byteAt t i) (byteAt t (i + 1))
+
+abbrev pub long : ℕ → ℕ → ℕ
+long h l = h * 65536 + l
+
+abbrev pub longAt : List ℕ → ℕ → ℕ
+longAt t i = long (wordAt t i) (wordAt t (i + 2))
+
+-- The event of n bytes at the start of t, or a record cut by the end of the trace.
+abbrev pub whole : List ℕ → ℕ → Event → Parsed
+whole t n e = cond (ltb (length t) n) Cut (Record e n)
+
+-- 02 hold: pins, RXD (nonzero is one), clocks (2).
+abbrev pub holdRecord : List ℕ → Parsed
+holdRecord t = whole t 5 (Hold (byteAt t 1) (not (eqb (byteAt t 2) 0)) (wordAt t 3))
+
+-- A width with bit 7 for supervisor.
+abbrev pub supervisorOf : ℕ → Bool
+supervisorOf b = leb 128 b
+
+abbrev pub widthOf : ℕ → ℕ
+widthOf b = b % 128
+
+-- 03 read: width with bit 7 for supervisor, offset (2).
+abbrev pub readRecord : List ℕ → Parsed
+readRecord t =
+    whole t 4 (event.Access (Read (supervisorOf (byteAt t 1)) (widthOf (byteAt t 1)) (wordAt t 2)))
+
+-- 04 write: width likewise, offset (2), value (4).
+abbrev pub writeRecord : List ℕ → Parsed
+writeRecord t =
+    whole t 8
+    (event.Access (Write (supervisorOf (byteAt t 1)) (widthOf (byteAt t 1)) (wordAt t 2) (longAt t 4)))
+
+-- A record by its kind; one of an unknown kind, with or without a body, is none.
+abbrev pub byKind : ℕ → List ℕ → Parsed
+byKind kind t =
+    cond (eqb kind 1) (Record Reset 1)
+    (cond (eqb kind 2) (holdRecord t)
+    (cond (eqb kind 3) (readRecord t)
+    (cond (eqb kind 4) (writeRecord t)
+    Unknown)))
+
+-- The record at the start of t: its event and its length.
+abbrev pub parsed : List ℕ → Parsed
+parsed t = cond (eqb (length t) 0) Cut (byKind (byteAt t 0) t)
+
+abbrev pub answerLength : ℕ
+answerLength = 10
+
+-- An answer: 10, refusal or 0, value (4), driven levels, driven mask, level, vector.
+abbrev pub answerBytes : Answer → List ℕ
+answerBytes a =
+    16 ∷
+    a .refusal ∷
+    a .value / 16777216 % 256 ∷
+    a .value / 65536 % 256 ∷
+    a .value / 256 % 256 ∷
+    a .value % 256 ∷
+    a .levels ∷
+    a .mask ∷
+    a .level ∷
+    a .vector ∷
+    []

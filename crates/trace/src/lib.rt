@@ -1,0 +1,198 @@
+// The trace: records in, answers out, and refusals 5 to 7.
+ghost use mathlib.Core.Path.{_≡_};
+ghost use mathlib.Core.List.{_++_};
+ghost use Prim.Native.Nat.{_≤_};
+ghost use lib.ListN.{length, drop};
+ghost use Rattle.trace.specs.Trace.{long, supervisorOf, widthOf, holdRecord, readRecord, writeRecord, parsed, answerLength, answerBytes};
+ghost use Rattle.trace.specs.Play.{stopNumber, refusalOf, play, Plays};
+use qsm::event::Access;
+use qsm::event::Answer;
+use qsm::event::Event;
+use qsm::state::Module;
+
+// What stands at the start of a rest of a trace: an event with the length of its record, or why there is none.
+pub enum Parsed {
+    Record(Event, usize),
+    Unknown,
+    Cut,
+}
+
+// Why a trace went no further.
+pub enum Stop {
+    End,
+    UnknownKind,
+    CutRecord,
+    NoRoom,
+}
+
+// The module after a trace, the bytes read and written, and why it stopped.
+pub struct Played {
+    pub state: Module,
+    pub read: usize,
+    pub written: usize,
+    pub stop: Stop,
+}
+
+// The bytes of an answer.
+pub const ANSWER_LENGTH: usize = 10;
+
+fn long(high: u16, low: u16) -> u32
+    ensures { λ r. ⌜ r ≡ long high low ⌝ }
+{
+    (high as u32) * 65536 + (low as u32)
+}
+
+fn supervisor(b: u8) -> bool
+    ensures { λ r. ⌜ r ≡ supervisorOf b ⌝ }
+{
+    128 <= b
+}
+
+fn width(b: u8) -> u8
+    ensures { λ r. ⌜ r ≡ widthOf b ⌝ }
+{
+    b % 128
+}
+
+fn hold(rest: &[u8]) -> Parsed
+    ensures { λ r. ⌜ r ≡ holdRecord (now (rest .entry)) ⌝ }
+{
+    if rest.len() < 5 {
+        return Parsed::Cut;
+    }
+    let clocks = steps::word(rest[3], rest[4]);
+    Parsed::Record(Event::Hold(rest[1], rest[2] != 0, clocks), 5)
+}
+
+fn read(rest: &[u8]) -> Parsed
+    ensures { λ r. ⌜ r ≡ readRecord (now (rest .entry)) ⌝ }
+{
+    if rest.len() < 4 {
+        return Parsed::Cut;
+    }
+    let b = rest[1];
+    let offset = steps::word(rest[2], rest[3]);
+    let a = Access::Read(supervisor(b), width(b), offset);
+    Parsed::Record(Event::Access(a), 4)
+}
+
+fn write(rest: &[u8]) -> Parsed
+    ensures { λ r. ⌜ r ≡ writeRecord (now (rest .entry)) ⌝ }
+{
+    if rest.len() < 8 {
+        return Parsed::Cut;
+    }
+    let b = rest[1];
+    let offset = steps::word(rest[2], rest[3]);
+    let value = long(steps::word(rest[4], rest[5]), steps::word(rest[6], rest[7]));
+    let a = Access::Write(supervisor(b), width(b), offset, value);
+    Parsed::Record(Event::Access(a), 8)
+}
+
+// The record at the start of a rest of a trace.
+// Ruled out: a cut record of an unknown kind that is 6; a low byte lost; a user taken for a supervisor.
+pub fn parse(rest: &[u8]) -> Parsed
+    ensures { λ r. ⌜ r ≡ parsed (now (rest .entry)) ⌝ }
+{
+    if rest.len() == 0 {
+        return Parsed::Cut;
+    }
+    let kind = rest[0];
+    if kind == 1 {
+        return Parsed::Record(Event::Reset, 1);
+    }
+    if kind == 2 {
+        return hold(rest);
+    }
+    if kind == 3 {
+        return read(rest);
+    }
+    if kind == 4 {
+        return write(rest);
+    }
+    Parsed::Unknown
+}
+
+// Why a trace stops before what is no whole record.
+fn refused(p: Parsed) -> Stop
+    ensures { λ r. ⌜ stopNumber r ≡ refusalOf p ⌝ }
+{
+    match p {
+        Parsed::Record(_, _) => Stop::End,
+        Parsed::Unknown => Stop::UnknownKind,
+        Parsed::Cut => Stop::CutRecord,
+    }
+}
+
+// The refusal's number, 0 at the end of a trace.
+// Ruled out: 6 and 5 exchanged; a number for the end.
+pub fn stop_number(s: Stop) -> u8
+    ensures { λ r. ⌜ r ≡ stopNumber s ⌝ }
+{
+    match s {
+        Stop::End => 0,
+        Stop::UnknownKind => 5,
+        Stop::CutRecord => 6,
+        Stop::NoRoom => 7,
+    }
+}
+
+// An answer at the start of what is left of the lent output.
+fn put_answer(left: &mut [u8], a: Answer)
+    requires { ⌜ answerLength ≤ length (now left) ⌝ }
+    ensures { λ _. ⌜ now (left .exit) ≡ answerBytes a ++ drop answerLength (now (left .entry)) ⌝ }
+{
+    left[0] = 16;
+    left[1] = a.refusal;
+    left[2] = (a.value / 16777216 % 256) as u8;
+    left[3] = (a.value / 65536 % 256) as u8;
+    left[4] = (a.value / 256 % 256) as u8;
+    left[5] = (a.value % 256) as u8;
+    left[6] = a.levels;
+    left[7] = a.mask;
+    left[8] = a.level;
+    left[9] = a.vector;
+}
+
+// Plays a trace on a module, with its answers into a lent output.
+// Ruled out: an answer over an earlier one; a byte changed past the answers; a stop after the record that caused it.
+pub fn play(m: Module, trace: &[u8], out: &mut [u8]) -> Played
+    ensures { λ r. ⌜ Plays (play m (now (trace .entry)) (length (now (out .entry)))) (now (out .entry)) r (now (out .exit)) ⌝ }
+{
+    let mut state = m;
+    let mut at = 0;
+    let mut put = 0;
+    while at < trace.len() {
+        let p = parse(&trace[at..]);
+        let Parsed::Record(e, size) = p else {
+            let stop = refused(p);
+            return Played {
+                state,
+                read: at,
+                written: put,
+                stop,
+            };
+        };
+        if out.len() - put < ANSWER_LENGTH {
+            return Played {
+                state,
+                read: at,
+                written: put,
+                stop: Stop::NoRoom,
+            };
+        }
+        let s = qsm::event::step(state, e);
+        let answer = s.answer;
+        put_answer(&mut out[put..], answer);
+        let next = s.state;
+        state = next;
+        at += size;
+        put += ANSWER_LENGTH;
+    }
+    Played {
+        state,
+        read: at,
+        written: put,
+        stop: Stop::End,
+    }
+}
