@@ -37,7 +37,7 @@ positive t h = let no : length t ≡ 0 → ⊥ = eqb-false (length t) 0 h in ome
 pub sized : (t : List ℕ) → Sized t (parsed t)
 sized t =
     sized-if t (eqb (length t) 0) _ _ (λ _. tt) (λ some.
-    sized-if t (eqb (byteAt t 0) 1) _ _ (λ _. (omega arith, positive t some)) (λ _.
+    sized-if t (eqb (byteAt t 0) 1) _ _ (λ _. (omega (arith, positive t some), omega (arith, positive t some))) (λ _.
     sized-if t (eqb (byteAt t 0) 2) _ _ (λ _. sized-whole t 5 _ (omega arith)) (λ _.
     sized-if t (eqb (byteAt t 0) 3) _ _ (λ _. sized-whole t 4 _ (omega arith)) (λ _.
     sized-if t (eqb (byteAt t 0) 4) _ _ (λ _. sized-whole t 8 _ (omega arith)) (λ _. tt)))))
@@ -65,13 +65,9 @@ enough (suc k) (suc j) m t room h i =
     (turn-same (playFor k) (playFor j) m t room (parsed t) (sized t)
     (λ m′ n room′ pos. enough k j m′ (drop n t) room′ (simp length-drop (omega arith)) (simp length-drop (omega arith))))
 
-otherwise : (b : Bool) (x : Outcome) {y : Outcome} → b ≡ false → cond b x y ≡ y
+otherwise : {A : Type 0} (b : Bool) (x : A) {y : A} → b ≡ false → cond b x y ≡ y
 otherwise true x h = absurd (true≢false h)
 otherwise false x h = refl
-
-otherwise′ : (b : Bool) (x : Parsed) {y : Parsed} → b ≡ false → cond b x y ≡ y
-otherwise′ true x h = absurd (true≢false h)
-otherwise′ false x h = refl
 
 unrolled : (k : ℕ) (m : Module) (t : List ℕ) (room : ℕ) → 0 < length t → length t ≤ k → playFor k m t room ≡ turn play m t room (parsed t)
 unfolding playFor
@@ -136,13 +132,13 @@ module _ (s t : List ℕ) where
   kind-told : {e : Event} {n : ℕ} → parsed t ≡ Record e n → byKind (byteAt t 0) t ≡ Record e n
   kind-told {e} {n} is =
       let some : 0 < length t = omega (arith, record-within t is) in
-      sym (otherwise′ (eqb (length t) 0) Cut (ne-eqb (length t) 0 (λ z. omega arith))) ∙ is
+      sym (otherwise (eqb (length t) 0) Cut (ne-eqb (length t) 0 (λ z. omega arith))) ∙ is
 
   pub record-told : {e : Event} {n : ℕ} → parsed t ≡ Record e n → Alike s t n → parsed s ≡ Record e n
   record-told {e} {n} is a =
       let pos : 0 < n = record-within t is .0 in
       let none : length s ≡ 0 → ⊥ = λ z. omega (arith, a .1) in
-      otherwise′ (eqb (length s) 0) Cut (ne-eqb (length s) 0 none)
+      otherwise (eqb (length s) 0) Cut (ne-eqb (length s) 0 none)
       ∙ ap (λ (k : ℕ). byKind k s) (a .0 0 pos)
       ∙ subst (λ (p : Parsed). Told p (byKind (byteAt t 0) s)) (kind-told is) (told-kind (byteAt t 0)) a
 
@@ -166,7 +162,7 @@ module _ (P : Module → List ℕ → ℕ → Outcome → Type 0)
     → P (step m e .state) (drop n t) (room - answerLength) o → P m t room (followed (answered (step m e) (take n t)) o)) where
   by-room : (b : Bool) (m : Module) (t : List ℕ) (room : ℕ) (o : Outcome) → b ≡ ltb room answerLength → (answerLength ≤ room → P m t room o)
       → P m t room (cond b (stopped m 7) o)
-  by-room true m t room o is h = stops m t room 7 (λ z. absurd (omega arith))
+  by-room true m t room o is h = stops m t room _ (λ z. absurd (omega arith))
   by-room false m t room o is h = h (ltb-false _ _ (sym is))
 
   by-record : (f : Module → List ℕ → ℕ → Outcome) (m : Module) (t : List ℕ) (room : ℕ) (p : Parsed) → parsed t ≡ p
@@ -174,8 +170,8 @@ module _ (P : Module → List ℕ → ℕ → Outcome → Type 0)
   by-record f m t room (Record e n) is h =
       let w = record-within t is in
       by-room (ltb room answerLength) m t room _ refl (λ fits. goes m t room e n _ is (w .0) (w .1) fits (h (step m e .state) n (room - answerLength) (w .0)))
-  by-record f m t room Unknown is h = stops m t room 5 (λ z. absurd (omega arith))
-  by-record f m t room Cut is h = stops m t room 6 (λ z. absurd (omega arith))
+  by-record f m t room Unknown is h = stops m t room _ (λ z. absurd (omega arith))
+  by-record f m t room Cut is h = stops m t room _ (λ z. absurd (omega arith))
 
   by-end : (b : Bool) (m : Module) (t : List ℕ) (room : ℕ) (o : Outcome) → b ≡ eqb (length t) 0 → P m t room o → P m t room (cond b (stopped m 0) o)
   by-end true m t room o is h = stops m t room 0 (λ z. eqb-true _ _ (sym is))
