@@ -34,11 +34,11 @@ clock-starting q pins s calm = rw (no-fault q pins calm, s .on, s .not-playing, 
 suc-mul : (j s : ℕ) → suc j * s ≡ j * s + s
 suc-mul j s = mul-comm (suc j) s ∙ mul-suc s j ∙ ap (λ x. x + s) (mul-comm s j)
 
-next-edge : (e : Qspi) (j : ℕ) → edgeClock e (suc j) ≡ edgeClock e j + gap e j
+pub next-edge : (e : Qspi) (j : ℕ) → edgeClock e (suc j) ≡ edgeClock e j + gap e j
 next-edge e zero = rw (zero-mul (spbrIn e)) (omega arith)
 next-edge e (suc j) = rw (suc-mul j (spbrIn e)) (omega arith)
 
-gap-pos : (e : Qspi) (j : ℕ) → 2 ≤ spbrIn e → 1 ≤ gap e j
+pub gap-pos : (e : Qspi) (j : ℕ) → 2 ≤ spbrIn e → 1 ≤ gap e j
 gap-pos e zero h = pre-pos (e .spcr0) (e .spcr1) (e .command) (omega arith)
 gap-pos e (suc j) h = omega arith
 

@@ -110,3 +110,7 @@ beginsAt q (suc k) = beginsAt q k + lengthOf (q .spcr0) (q .spcr1) (commandNo q 
 -- How many entries stand before the one at ENDQP, modulo 16.
 abbrev pub entriesBefore : Qspi → ℕ
 entriesBefore q = (endqp (q .spcr2) + 16 - entryAt q) % 16
+
+-- The clock of edge 2n of the entry at ENDQP.
+abbrev pub endsAt : Qspi → ℕ
+endsAt q = beginsAt q (entriesBefore q) + lastClockOf (q .spcr0) (q .spcr1) (commandNo q (entriesBefore q))

@@ -7,7 +7,7 @@ use lib.ListN.{set}
 use Rattle.steps.specs.Bits.{bit}
 use Rattle.qspi.specs.Fields.{cpha, spe, wren, endqp, halt}
 use Rattle.qspi.specs.Queue.{entryAt, completed, ready, selected, wrapTo}
-use Rattle.qspi.specs.Entry.{run, entry, bitsIn, spbrIn, delayIn, edgeClock, gap, lastClockOf, lastClock, lengthIn, during, waiting, waited, bitShown, wordOf, bitsRead, entryNo, commandNo, beginsAt, entriesBefore}
+use Rattle.qspi.specs.Entry.{run, entry, bitsIn, spbrIn, delayIn, edgeClock, gap, lastClock, lengthIn, during, waiting, waited, bitShown, wordOf, bitsRead, entryNo, beginsAt, entriesBefore, endsAt}
 use Rattle.qspi.specs.declared.Qspi.{Qspi}
 use Rattle.qspi.specs.declared.Pins.{Pins}
 
@@ -94,12 +94,23 @@ QueueEnds =
     (q : Qspi) (pins : ℕ → Pins) → Starting q → Calm pins → goesOn q ≡ false →
     (spe (run pins (lastClock (entry q)) q .spcr1) ≡ false) × (run pins (lastClock (entry q)) q .spif ≡ true)
 
+-- The state r stands before clock 1 of entry number k, and the entries so far have kept what the others need.
+pub record Before (q r : Qspi) (k : ℕ) : Type 0 where
+  pub starts : Starting r
+  pub here : entryAt r ≡ entryNo q k
+  pub spcr0 : r .spcr0 ≡ q .spcr0
+  pub spcr1 : r .spcr1 ≡ q .spcr1
+  pub spcr2 : r .spcr2 ≡ q .spcr2
+  pub spcr3 : r .spcr3 ≡ q .spcr3
+  pub spif : r .spif ≡ q .spif
+  pub transmit : r .transmit ≡ q .transmit
+  pub commands : r .commands ≡ q .commands
+
 -- The entries run from the pointer to ENDQP modulo 16, each one's clock 1 after the delay of the one before.
 abbrev pub EntriesRun : Type 0
 EntriesRun =
     (q : Qspi) (pins : ℕ → Pins) → Starting q → Calm pins → halt (q .spcr3) ≡ false → (k : ℕ) →
-    k ≤ entriesBefore q →
-    Starting (run pins (beginsAt q k) q) × (entryAt (run pins (beginsAt q k) q) ≡ entryNo q k)
+    k ≤ entriesBefore q → Before q (run pins (beginsAt q k) q) k
 
 -- With WREN the entry after the one at ENDQP is 0, or NEWQP if WRTO.
 abbrev pub QueueWraps : Type 0
@@ -109,11 +120,13 @@ QueueWraps =
     (run pins (lastClock (entry q)) q .spif ≡ true)
     × (entryAt (run pins (lengthIn (entry q)) q) ≡ wrapTo (q .spcr2))
 
--- Without WREN the queue ends at edge 2n of the entry at ENDQP.
+-- Without WREN the queue ends at edge 2n of the entry at ENDQP, and not sooner.
 abbrev pub LastOfQueue : Type 0
 LastOfQueue =
     (q : Qspi) (pins : ℕ → Pins) → Starting q → Calm pins → halt (q .spcr3) ≡ false → wren (q .spcr2) ≡ false →
-    QueueOver q
-    (run pins
-    (beginsAt q (entriesBefore q) + lastClockOf (q .spcr0) (q .spcr1) (commandNo q (entriesBefore q)))
-    q)
+    QueueOver q (run pins (endsAt q) q)
+
+abbrev pub NotSooner : Type 0
+NotSooner =
+    (q : Qspi) (pins : ℕ → Pins) → Starting q → Calm pins → halt (q .spcr3) ≡ false → q .spif ≡ false → (c : ℕ) →
+    c < endsAt q → (spe (run pins c q .spcr1) ≡ true) × (run pins c q .spif ≡ false)
