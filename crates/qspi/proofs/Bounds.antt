@@ -46,3 +46,15 @@ pub delay-pos : (spcr1 command : ℕ) → 17 ≤ delayAfter spcr1 command
 unfolding delayAfter
 delay-pos spcr1 command =
     cond-ge (dt command) _ _ 17 (zero-means-32 (dtl spcr1)) (omega arith)
+
+-- At most 255 clocks of pre-delay, and 8,192 of delay.
+pub pre-small : (spcr0 spcr1 command : ℕ) → preDelay spcr0 spcr1 command ≤ 255
+unfolding preDelay
+pre-small spcr0 spcr1 command =
+    cond-le (dsck command) _ _ 255 (cond-le (eqb (dsckl spcr1) 0) _ _ 255 (omega arith) (omega arith)) (omega arith)
+
+pub delay-small : (spcr1 command : ℕ) → delayAfter spcr1 command ≤ 8192
+unfolding delayAfter
+delay-small spcr1 command =
+    cond-le (dt command) _ _ 8192 (cond-le (eqb (32 * dtl spcr1) 0) _ _ 8192 (omega arith) (omega arith))
+    (omega arith)

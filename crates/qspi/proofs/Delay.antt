@@ -124,6 +124,13 @@ module _ (q : Qspi) (pins : ℕ → Pins) (s : Starting q) (calm : Calm pins) (g
       (field-on (λ r. r .selecting) true refl refl) (shifted-calm (lastClock (entry q))) d pos (rw after-left less)
       ∙ ap (λ l. waiting (run pins (lastClock (entry q)) q) (l - d)) after-left
 
+  pub in-delay : (d : ℕ) → d < delayIn (entry q) → run pins (lastClock (entry q) + d) q .delaying ≡ true
+  in-delay zero less =
+      ap (λ k. run pins k q .delaying) (add-zero (lastClock (entry q)))
+      ∙ field-on (λ r. r .delaying) true refl refl
+  in-delay (suc d) less =
+      ap (λ r. r .delaying) (delay-here (suc d) (omega arith) less) ∙ field-on (λ r. r .delaying) true refl refl
+
   module _ (clear : halt (q .spcr3) ≡ false) where
     pub over-here : run pins (lengthIn (entry q)) q ≡ waited (run pins (lastClock (entry q)) q)
     over-here =

@@ -5,3 +5,4 @@ pub mod Mosi
 pub mod Word
 pub mod Delay
 pub mod Order
+pub mod Marked

@@ -6,3 +6,4 @@ pub mod Queue
 pub mod Outputs
 pub mod Entry
 pub mod Laws
+pub mod Marked
