@@ -192,8 +192,8 @@ impl Qspi {
     pub fn write_spcr2(mut self, v: u16, upper: bool, lower: bool) -> Qspi
         ensures { λ r. ⌜ r ≡ writeSpcr2 self v upper lower ⌝ }
     {
-        self.spcr2 = spcr2_bits(merge(self.spcr2, v, upper, lower));
         self.pending = self.pending | lower;
+        self.spcr2 = spcr2_bits(merge(self.spcr2, v, upper, lower));
         self
     }
 
