@@ -12,7 +12,7 @@ selected-requires : tie.Need-selected-requires
 selected-requires c κs = search needs
 
 returns : tie.Need-returns
-returns c = rw (c .selected .ensures, c .before .mstr .ensures, c .before .before .spe .ensures)
+returns c = cc
 
 pub fault-now-spec : {M : Type 1} → statement M
 fault-now-spec = tie.close (tie.spec spe-requires mstr-requires selected-requires returns)
