@@ -92,7 +92,7 @@ on-test q h = rw (entry-small q) h
 
 -- What stands after edge 2n where the queue goes on.
 module _ (q : Qspi) (pins : ℕ → Pins) (s : Starting q) (calm : Calm pins) (goes : goesOn q ≡ true) where
-  field-on : {A : Type 0} (f : Qspi → A) (v : A) → f (wrapped (stored (atEnd q pins))) ≡ v →
+  pub field-on : {A : Type 0} (f : Qspi → A) (v : A) → f (wrapped (stored (atEnd q pins))) ≡ v →
       f (advanced (stored (atEnd q pins))) ≡ v → f (run pins (lastClock (entry q)) q) ≡ v
   field-on f v a c =
       ap f (last-edge q pins s calm) ∙ completed-on f v (atEnd q pins) (on-test q goes) a c
@@ -160,7 +160,7 @@ next-starts q pins s calm goes clear = (over-here q pins s calm goes clear, next
 off-test : (q : Qspi) → goesOn q ≡ false → not (eqb (entryAt q % 16) (endqp (q .spcr2))) || wren (q .spcr2) ≡ false
 off-test q h = rw (entry-small q) h
 
-no-spe : (w : ℕ) → spe (w % 32768) ≡ false
+pub no-spe : (w : ℕ) → spe (w % 32768) ≡ false
 no-spe w = ne-eqb (w % 32768 / 32768 % 2) 1 (λ e. omega arith)
 
 pub queue-ends : QueueEnds

@@ -6,3 +6,4 @@ pub mod Word
 pub mod Delay
 pub mod Order
 pub mod Marked
+pub mod Lines

@@ -1,12 +1,14 @@
 -- Laws of an entry and of a queue, for all settings, with no reset, write, HALT or mode fault in between.
 use mathlib.Core.Path.{_≡_}
-use mathlib.Core.Bool.{Bool, true, false, not, _||_}
-use Prim.Native.Nat.{ℕ, zero, suc, _+_, _-_, _*_, _^_, _≤_, _<_}
+use mathlib.Core.Bool.{Bool, true, false, cond, not, _||_}
+use Prim.Native.Nat.{ℕ, zero, suc, _+_, _-_, _*_, _/_, _%_, _^_, _≤_, _<_}
 use lib.Dec.{eqb}
 use lib.ListN.{set}
 use Rattle.steps.specs.Bits.{bit}
-use Rattle.qspi.specs.Fields.{cpha, spe, wren, endqp, halt}
-use Rattle.qspi.specs.Queue.{entryAt, completed, ready, selected, wrapTo}
+use Rattle.qspi.specs.Fields.{cpol, cpha, spe, wren, endqp, halt, cont, pcsField}
+use Rattle.qspi.specs.Registers.{writeSpcr1}
+use Rattle.qspi.specs.Queue.{entryAt, completed, ready, selected, wrapTo, faultNow, clock}
+use Rattle.qspi.specs.Outputs.{sck, pcs}
 use Rattle.qspi.specs.Entry.{run, entry, bitsIn, spbrIn, delayIn, edgeClock, gap, lastClock, lengthIn, during, waiting, waited, bitShown, wordOf, bitsRead, entryNo, beginsAt, entriesBefore, endsAt}
 use Rattle.qspi.specs.declared.Qspi.{Qspi}
 use Rattle.qspi.specs.declared.Pins.{Pins}
@@ -45,6 +47,33 @@ LastEdge =
     (q : Qspi) (pins : ℕ → Pins) → Starting q → Calm pins →
     run pins (lastClock (entry q)) q
     ≡ completed (during (entry q) pins (bitsIn (entry q) * 2) (spbrIn (entry q)))
+
+-- SCK turns with each edge and rests at CPOL after edge 2n.
+abbrev pub SckTurns : Type 0
+SckTurns =
+    (q : Qspi) (pins : ℕ → Pins) → Starting q → Calm pins → (j d : ℕ) → j < bitsIn (entry q) * 2 →
+    d < gap (entry q) j → 0 < edgeClock (entry q) j + d →
+    sck (run pins (edgeClock (entry q) j + d) q)
+    ≡ cond (eqb (j % 2) 1) (not (cpol (q .spcr0))) (cpol (q .spcr0))
+
+abbrev pub SckRests : Type 0
+SckRests =
+    (q : Qspi) (pins : ℕ → Pins) → Starting q → Calm pins →
+    sck (run pins (lastClock (entry q)) q) ≡ cpol (q .spcr0)
+
+-- The PCS show the command's value from clock 1 on, in the delay only with CONT.
+abbrev pub PcsShow : Type 0
+PcsShow =
+    (q : Qspi) (pins : ℕ → Pins) → Starting q → Calm pins → (j d portqs : ℕ) → j < bitsIn (entry q) * 2 →
+    d < gap (entry q) j → 0 < edgeClock (entry q) j + d →
+    pcs (run pins (edgeClock (entry q) j + d) q) portqs ≡ pcsField (entry q .command)
+
+abbrev pub PcsDelay : Type 0
+PcsDelay =
+    (q : Qspi) (pins : ℕ → Pins) → Starting q → Calm pins → goesOn q ≡ true → (d portqs : ℕ) →
+    d < delayIn (entry q) →
+    pcs (run pins (lastClock (entry q) + d) q) portqs
+    ≡ cond (eqb d 0 || cont (entry q .command)) (pcsField (entry q .command)) (portqs / 8 % 16)
 
 -- MOSI shows the low n bits of the transmit word, highest first: with CPHA=0 bit i from edge 2i on, clock 1 for the first,
 -- with CPHA=1 from edge 2i + 1 on, up to the next; the last one still after edge 2n.
@@ -130,3 +159,20 @@ abbrev pub NotSooner : Type 0
 NotSooner =
     (q : Qspi) (pins : ℕ → Pins) → Starting q → Calm pins → halt (q .spcr3) ≡ false → q .spif ≡ false → (c : ℕ) →
     c < endsAt q → (spe (run pins c q .spcr1) ≡ true) × (run pins c q .spif ≡ false)
+
+-- A mode fault and a write that clears SPE abandon the entry: nothing is stored.
+pub record Abandoned (q r : Qspi) : Type 0 where
+  pub off : spe (r .spcr1) ≡ false
+  pub not-playing : r .playing ≡ false
+  pub receive : r .receive ≡ q .receive
+  pub cptqp : r .cptqp ≡ q .cptqp
+  pub spif : r .spif ≡ q .spif
+
+abbrev pub FaultAbandons : Type 0
+FaultAbandons =
+    (q : Qspi) (pins : Pins) → faultNow q pins ≡ true → Abandoned q (clock q pins) × (clock q pins .modf ≡ true)
+
+abbrev pub WriteAbandons : Type 0
+WriteAbandons =
+    (q : Qspi) (v : ℕ) (lower : Bool) → spe (q .spcr1) ≡ true → spe v ≡ false →
+    Abandoned q (writeSpcr1 q v true lower)

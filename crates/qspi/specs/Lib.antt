@@ -7,3 +7,4 @@ pub mod Outputs
 pub mod Entry
 pub mod Laws
 pub mod Marked
+pub mod Shown

@@ -1,0 +1,66 @@
+-- What SCK and the PCS show in an entry, and what abandons one. Assumes nothing.
+use mathlib.Core.Path.{_≡_, refl, sym, ap, subst, _∙_}
+use mathlib.Core.Bool.{Bool, true, false, not, cond, _&&_, _||_}
+use Prim.Native.Nat.{ℕ, zero, suc, _+_, _*_, _/_, _%_, _≤_, _<_}
+use native.Mathlib.Nat.{add-zero}
+use native.Mathlib.Omega.{arith}
+use lib.Dec.{eqb}
+use borrow.Author.Tests.{ne-eqb, eqb-true, eqb-false, eq-eqb}
+use Rattle.steps.specs.Bits.{merge}
+use Rattle.qspi.specs.Fields.{cpol, spe, mstr, cont, pcsField}
+use Rattle.qspi.specs.Registers.{switched, writeSpcr1}
+use Rattle.qspi.specs.Queue.{clock, queueClock, faultNow, faulted, selected}
+use Rattle.qspi.specs.Outputs.{sck, pcs}
+use Rattle.qspi.specs.State.{withSpcr1}
+use Rattle.qspi.specs.Entry.{run, entry, delayIn, lastClock, waiting}
+use Rattle.qspi.specs.Laws.{Starting, Calm, goesOn, SckTurns, SckRests, PcsShow, PcsDelay, Abandoned, FaultAbandons, WriteAbandons}
+use Rattle.qspi.specs.declared.Qspi.{Qspi}
+use Rattle.qspi.specs.declared.Pins.{Pins}
+use Rattle.qspi.proofs.Completed.{completed-keeps}
+use Rattle.qspi.proofs.Edges.{edges-fall, last-edge}
+use Rattle.qspi.proofs.Delay.{field-on, delay-runs, no-spe}
+
+pub sck-turns : SckTurns
+sck-turns q pins s calm j d less within later = ap sck (edges-fall q pins s calm j d less within later)
+
+pub sck-rests : SckRests
+sck-rests q pins s calm = ap sck (last-edge q pins s calm) ∙ completed-keeps sck _ refl refl refl
+
+pub pcs-show : PcsShow
+pcs-show q pins s calm j d portqs less within later =
+    ap (λ r. pcs r portqs) (edges-fall q pins s calm j d less within later)
+
+pub pcs-delay : PcsDelay
+pcs-delay q pins s calm goes zero portqs less =
+    ap (λ k. pcs (run pins k q) portqs) (add-zero (lastClock (entry q)))
+    ∙ field-on q pins s calm goes (λ r. pcs r portqs) (pcsField (entry q .command)) refl refl
+pcs-delay q pins s calm goes (suc d) portqs less =
+    ap (λ r. pcs r portqs) (delay-runs q pins s calm goes (suc d) (omega arith) less)
+    ∙ ap (λ c. cond (cont c) (pcsField c) (portqs / 8 % 16))
+    (field-on q pins s calm goes (λ r. r .command) (entry q .command) refl refl)
+    ∙ ap (λ b. cond (b || cont (entry q .command)) (pcsField (entry q .command)) (portqs / 8 % 16))
+    (sym (ne-eqb (suc d) 0 (λ e. omega arith)))
+
+pub fault-abandons : FaultAbandons
+unfolding clock queueClock
+fault-abandons q pins h =
+    let there : clock q pins ≡ faulted true q = rw (h, no-spe (q .spcr1)) in (
+      subst (Abandoned q) (sym there)
+          (record { off = no-spe (q .spcr1); not-playing = refl; receive = refl; cptqp = refl; spif = refl }),
+      ap (λ r. r .modf) there,
+    )
+
+cleared : (old v : ℕ) (lower : Bool) → spe v ≡ false → spe (merge old v true lower) ≡ false
+cleared old v true h =
+    ne-eqb (merge old v true true / 32768 % 2) 1 (λ e. eqb-false (v / 32768 % 2) 1 h (omega arith))
+cleared old v false h =
+    ne-eqb (merge old v true false / 32768 % 2) 1 (λ e. eqb-false (v / 32768 % 2) 1 h (omega arith))
+
+pub write-abandons : WriteAbandons
+unfolding writeSpcr1
+write-abandons q v lower on off =
+    let gone : spe (merge (q .spcr1) v true lower) ≡ false = cleared (q .spcr1) v lower off in
+    let there : writeSpcr1 q v true lower ≡ switched true false (withSpcr1 q (merge (q .spcr1) v true lower)) =
+    rw (on, gone) in
+    subst (Abandoned q) (sym there)
+    (record { off = gone; not-playing = refl; receive = refl; cptqp = refl; spif = refl })

@@ -1,0 +1,29 @@
+-- All that is shown of an entry and of a queue.
+use Rattle.qspi.specs.Laws.{EdgesFall, LastEdge, SckTurns, SckRests, PcsShow, PcsDelay, MosiShows, MosiHolds, WordStored, UnusedZero, BitsInOrder, DelayRuns, NextStarts, QueueEnds, EntriesRun, QueueWraps, LastOfQueue, NotSooner, FaultAbandons, WriteAbandons}
+use Rattle.qspi.specs.Marked.{K7, K8, K9, K10}
+
+pub record Shown : Type 0 where
+  pub edges-fall : EdgesFall
+  pub last-edge : LastEdge
+  pub sck-turns : SckTurns
+  pub sck-rests : SckRests
+  pub pcs-show : PcsShow
+  pub pcs-delay : PcsDelay
+  pub mosi-shows : MosiShows
+  pub mosi-holds : MosiHolds
+  pub word-stored : WordStored
+  pub unused-zero : UnusedZero
+  pub bits-in-order : BitsInOrder
+  pub delay-runs : DelayRuns
+  pub next-starts : NextStarts
+  pub queue-ends : QueueEnds
+  pub entries-run : EntriesRun
+  pub queue-wraps : QueueWraps
+  pub last-of-queue : LastOfQueue
+  pub not-sooner : NotSooner
+  pub fault-abandons : FaultAbandons
+  pub write-abandons : WriteAbandons
+  pub k7 : K7
+  pub k8 : K8
+  pub k9 : K9
+  pub k10 : K10
