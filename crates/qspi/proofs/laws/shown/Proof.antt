@@ -1,0 +1,41 @@
+use Rattle.qspi.proofs.laws.shown.Statement.{statement}
+use Rattle.qspi.proofs.laws.shown.Tie as tie
+use Rattle.qspi.proofs.Edges.{edges-fall, last-edge}
+use Rattle.qspi.proofs.Lines.{sck-turns, sck-rests, pcs-show, pcs-delay, fault-abandons, write-abandons}
+use Rattle.qspi.proofs.Mosi.{mosi-shows, mosi-holds}
+use Rattle.qspi.proofs.Word.{word-stored, unused-zero, bits-in-order}
+use Rattle.qspi.proofs.Delay.{delay-runs, next-starts, queue-ends}
+use Rattle.qspi.proofs.Order.{entries-run, queue-wraps, last-of-queue, not-sooner}
+use Rattle.qspi.proofs.Marked.{k7, k8, k9, k10}
+
+returns : tie.Need-returns
+returns c =
+    record {
+      edges-fall = edges-fall;
+      last-edge = last-edge;
+      sck-turns = sck-turns;
+      sck-rests = sck-rests;
+      pcs-show = pcs-show;
+      pcs-delay = pcs-delay;
+      mosi-shows = mosi-shows;
+      mosi-holds = mosi-holds;
+      word-stored = word-stored;
+      unused-zero = unused-zero;
+      bits-in-order = bits-in-order;
+      delay-runs = delay-runs;
+      next-starts = next-starts;
+      queue-ends = queue-ends;
+      entries-run = entries-run;
+      queue-wraps = queue-wraps;
+      last-of-queue = last-of-queue;
+      not-sooner = not-sooner;
+      fault-abandons = fault-abandons;
+      write-abandons = write-abandons;
+      k7 = k7;
+      k8 = k8;
+      k9 = k9;
+      k10 = k10;
+    }
+
+pub shown-spec : {M : Type 1} → statement M
+shown-spec = tie.close (tie.spec returns)
