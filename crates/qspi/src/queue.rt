@@ -1,7 +1,7 @@
 // One clock of the queue: clock 1 of an entry, its edges, what edge 2n leaves, the delay, halt and mode fault.
 ghost use mathlib.Core.Path.{_≡_};
 ghost use Prim.Native.Nat.{_-_, _<_};
-ghost use Rattle.qspi.specs.Queue.{wrapTo, changes, bitOut, mosiAfter, pushed, collectedAfter, entryAt, loaded, started, edgeFallen, stored, finished, wrapped, advanced, followed, completed, judged, edge, counted, playClock, inDelay, delayOver, delayed, delayClock, ready, startIf, startClock, clockAt, clockIf, queueClock, misoOf, selected, faultNow, faulted, clock};
+ghost use Rattle.qspi.specs.Queue.{wrapTo, changes, bitOut, mosiAfter, pushed, collectedAfter, entryAt, loaded, started, edgeFallen, stored, finished, wrapped, advanced, followed, completed, judged, edge, counted, playClock, inDelay, delayOver, delayed, delayClock, ready, startClock, clockAt, queueClock, misoOf, selected, faultNow, faulted, clock};
 use crate::Pins;
 use crate::Qspi;
 use crate::fields::bit_0;
@@ -18,12 +18,6 @@ use crate::fields::spbr;
 use crate::fields::spe;
 use crate::fields::wren;
 use steps::choose;
-
-fn lower(n: u16) -> u16
-    ensures { λ r. ⌜ r ≡ n - 1 ⌝ }
-{
-    if n == 0 { 0 } else { n - 1 }
-}
 
 fn minus(a: u16, b: u16) -> u16
     ensures { λ r. ⌜ r ≡ a - b ⌝ }
@@ -234,7 +228,7 @@ impl Qspi {
         if now {
             return self.edge(self.edges % 32 + 1, miso);
         }
-        self.left = lower(self.left);
+        self.left = minus(self.left, 1);
         self
     }
 
@@ -257,7 +251,7 @@ impl Qspi {
             self.left = 0;
             return self;
         }
-        self.left = lower(self.left);
+        self.left = minus(self.left, 1);
         self
     }
 
@@ -273,20 +267,14 @@ impl Qspi {
         (2 <= spbr(self.spcr0)) & !(self.halted & halt(self.spcr3))
     }
 
-    fn start_if(self, ready: bool, miso: bool) -> Qspi
-        ensures { λ r. ⌜ r ≡ startIf ready miso self ⌝ }
+    fn start_clock(self, miso: bool) -> Qspi
+        ensures { λ r. ⌜ r ≡ startClock miso self ⌝ }
     {
-        if ready {
+        if self.ready() {
             self.loaded().started().play_clock(miso)
         } else {
             self
         }
-    }
-
-    fn start_clock(self, miso: bool) -> Qspi
-        ensures { λ r. ⌜ r ≡ startClock miso self ⌝ }
-    {
-        self.start_if(self.ready(), miso)
     }
 
     fn clock_at(self, playing: bool, delaying: bool, miso: bool) -> Qspi
@@ -302,20 +290,14 @@ impl Qspi {
         }
     }
 
-    fn clock_if(self, enabled: bool, miso: bool) -> Qspi
-        ensures { λ r. ⌜ r ≡ clockIf enabled miso self ⌝ }
+    fn queue_clock(self, miso: bool) -> Qspi
+        ensures { λ r. ⌜ r ≡ queueClock miso self ⌝ }
     {
-        if enabled {
+        if spe(self.spcr1) {
             self.clock_at(self.playing, self.delaying, miso)
         } else {
             self
         }
-    }
-
-    fn queue_clock(self, miso: bool) -> Qspi
-        ensures { λ r. ⌜ r ≡ queueClock miso self ⌝ }
-    {
-        self.clock_if(spe(self.spcr1), miso)
     }
 
     fn fault_now(self, pins: Pins) -> bool

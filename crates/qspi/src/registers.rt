@@ -3,7 +3,6 @@ ghost use mathlib.Core.Path.{_≡_};
 ghost use Prim.Native.Nat.{_≤_};
 ghost use Rattle.steps.specs.Bits.{digit};
 ghost use Rattle.qspi.specs.Registers.{reset, status, spcr3Spsr, statusRead, abandoned, risen, switched, writeSpcr0, writeSpcr1, spcr2Bits, writeSpcr2, falls, flagsFallen, writeSpcr3Spsr, spcr0Unmodelled, spcr1Unmodelled, spcr3Unmodelled, spcr0Guarded, spcr1Guarded};
-ghost use Rattle.qspi.specs.State.{withSpcr1};
 use crate::Qspi;
 use crate::fields::mstr;
 use crate::fields::spe;
@@ -173,19 +172,13 @@ impl Qspi {
         self
     }
 
-    fn with_spcr1(mut self, w: u16) -> Qspi
-        ensures { λ r. ⌜ r ≡ withSpcr1 self w ⌝ }
-    {
-        self.spcr1 = w;
-        self
-    }
-
     // Ruled out: SPE written one while one taken for a rise; the entry going on when SPE is cleared; the pointer kept.
-    pub fn write_spcr1(self, v: u16, upper: bool, lower: bool) -> Qspi
+    pub fn write_spcr1(mut self, v: u16, upper: bool, lower: bool) -> Qspi
         ensures { λ r. ⌜ r ≡ writeSpcr1 self v upper lower ⌝ }
     {
-        let w = merge(self.spcr1, v, upper, lower);
-        self.with_spcr1(w).switched(spe(self.spcr1), spe(w))
+        let before = spe(self.spcr1);
+        self.spcr1 = merge(self.spcr1, v, upper, lower);
+        self.switched(before, spe(self.spcr1))
     }
 
     // Ruled out: NEWQP rewritten with its own value skipped; the working copy written; a bit stored that doesn't exist.

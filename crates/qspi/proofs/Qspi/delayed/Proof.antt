@@ -11,11 +11,11 @@ halt-requires c κs = search needs
 returns : tie.Need-returns
 returns c = rw (c .before .halt .ensures, c .before .before .if1 .taken, c .before .before .before .before .cont .ensures)
 
-lower-requires : tie.Need-lower-requires
-lower-requires c κs = search needs
+minus-requires : tie.Need-minus-requires
+minus-requires c κs = search needs
 
 returns-2 : tie.Need-returns-2
-returns-2 c = rw (c .lower .ensures, c .before .if1 .left, c .before .before .before .cont .ensures)
+returns-2 c = rw (c .minus .ensures, c .before .if1 .left, c .before .before .before .cont .ensures)
 
 pub delayed-spec : {M : Type 1} → statement M
-delayed-spec = tie.close (tie.spec cont-requires halt-requires returns lower-requires returns-2)
+delayed-spec = tie.close (tie.spec cont-requires halt-requires returns minus-requires returns-2)

@@ -3,14 +3,11 @@ use Rattle.qspi.specs.Registers.{writeSpcr1}
 use Rattle.qspi.proofs.Qspi.write_spcr1.Statement.{statement}
 use Rattle.qspi.proofs.Qspi.write_spcr1.Tie as tie
 
-merge-requires : tie.Need-merge-requires
-merge-requires c κs = search needs
-
-with-spcr1-requires : tie.Need-with-spcr1-requires
-with-spcr1-requires c κs = search needs
-
 spe-requires : tie.Need-spe-requires
 spe-requires c κs = search needs
+
+merge-requires : tie.Need-merge-requires
+merge-requires c κs = search needs
 
 spe-requires-2 : tie.Need-spe-requires-2
 spe-requires-2 c κs = search needs
@@ -20,15 +17,8 @@ switched-requires c κs = search needs
 
 returns : tie.Need-returns
 unfolding writeSpcr1
-returns c = rw (c .switched .ensures, c .before .spe2 .ensures, c .before .before .spe .ensures, c .before .before .before .with-spcr1 .ensures, c .before .before .before .before .merge .ensures)
+returns c = rw (c .switched .ensures, c .before .spe2 .ensures, c .before .before .merge .ensures, c .before .before .before .spe .ensures)
 
 pub write-spcr1-spec : {M : Type 1} → statement M
 write-spcr1-spec =
-    tie.close
-    (tie.spec
-    merge-requires
-    with-spcr1-requires
-    spe-requires
-    spe-requires-2
-    switched-requires
-    returns)
+    tie.close (tie.spec spe-requires merge-requires spe-requires-2 switched-requires returns)
