@@ -5,11 +5,12 @@ use Prim.Native.Nat.{ℕ, zero, suc, _+_, _-_, _*_, _%_, _≤_, _<_}
 use native.Mathlib.Nat.{add-zero, zero-add, zero-mul, mul-comm, mul-suc}
 use native.Mathlib.Omega.{arith}
 use lib.Dec.{leb}
+use Rattle.steps.specs.Iterate.{iterate}
 use borrow.Author.Tests.{lt-leb, le-leb, leb-true}
 use Rattle.qspi.specs.Fields.{mstr, spe}
 use Rattle.qspi.specs.Queue.{clock, queueClock, playClock, startClock, edge, misoOf, selected, faultNow, ready, judged, completed}
 use Rattle.qspi.specs.Entry.{run, entry, bitsIn, preIn, spbrIn, edgeClock, gap, lastClock, during, mosiBy, collectedBy}
-use Rattle.qspi.specs.Laws.{Starting, Calm, EdgesFall, LastEdge}
+use Rattle.qspi.specs.Laws.{Starting, Calm, HoldRuns, EdgeFormula, EdgesFall, LastEdge}
 use Rattle.qspi.specs.declared.Qspi.{Qspi}
 use Rattle.qspi.specs.declared.Pins.{Pins}
 use Rattle.qspi.proofs.Bounds.{bits-small, bits-pos, pre-pos}
@@ -30,6 +31,17 @@ pub clock-starting : (q : Qspi) (pins : Pins) → Starting q → selected pins �
     clock q pins ≡ playClock (misoOf pins) (entry q)
 unfolding clock queueClock startClock
 clock-starting q pins s calm = rw (no-fault q pins calm, s .on, s .not-playing, s .not-delaying, s .goes)
+
+pub hold-runs : HoldRuns
+unfolding iterate run
+hold-runs pins zero q = refl
+hold-runs pins (suc n) q = ap (λ r. clock r pins) (hold-runs pins n q)
+
+pub edge-formula : EdgeFormula
+edge-formula e zero h = absurd (omega arith)
+edge-formula e (suc j) h =
+    let same : j ≡ suc j - 1 = omega arith in
+    ap (λ k. preIn e + k * spbrIn e) same
 
 suc-mul : (j s : ℕ) → suc j * s ≡ j * s + s
 suc-mul j s = mul-comm (suc j) s ∙ mul-suc s j ∙ ap (λ x. x + s) (mul-comm s j)

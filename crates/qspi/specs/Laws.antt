@@ -5,11 +5,12 @@ use Prim.Native.Nat.{ℕ, zero, suc, _+_, _-_, _*_, _/_, _%_, _^_, _≤_, _<_}
 use lib.Dec.{eqb}
 use lib.ListN.{set}
 use Rattle.steps.specs.Bits.{bit}
+use Rattle.steps.specs.Iterate.{iterate}
 use Rattle.qspi.specs.Fields.{cpol, cpha, spe, wren, endqp, halt, cont, pcsField}
 use Rattle.qspi.specs.Registers.{writeSpcr1}
 use Rattle.qspi.specs.Queue.{entryAt, completed, ready, selected, wrapTo, faultNow, clock}
 use Rattle.qspi.specs.Outputs.{sck, pcs}
-use Rattle.qspi.specs.Entry.{run, entry, bitsIn, spbrIn, delayIn, edgeClock, gap, lastClock, lengthIn, during, waiting, waited, bitShown, wordOf, bitsRead, entryNo, beginsAt, entriesBefore, endsAt}
+use Rattle.qspi.specs.Entry.{run, entry, bitsIn, preIn, spbrIn, delayIn, edgeClock, gap, lastClock, lengthIn, during, waiting, waited, bitShown, wordOf, bitsRead, entryNo, beginsAt, entriesBefore, endsAt}
 use Rattle.qspi.specs.declared.Qspi.{Qspi}
 use Rattle.qspi.specs.declared.Pins.{Pins}
 
@@ -23,6 +24,14 @@ pub record Starting (q : Qspi) : Type 0 where
 -- No mode fault.
 abbrev pub Calm : (ℕ → Pins) → Type 0
 Calm pins = (c : ℕ) → selected (pins c) ≡ false
+
+-- Clocks under one set of pins, as in a hold, are a run.
+abbrev pub HoldRuns : Type 0
+HoldRuns = (pins : Pins) (n : ℕ) (q : Qspi) → iterate n (λ r. clock r pins) q ≡ run (λ c. pins) n q
+
+-- The clock of edge j as a formula.
+abbrev pub EdgeFormula : Type 0
+EdgeFormula = (e : Qspi) (j : ℕ) → 0 < j → edgeClock e j ≡ preIn e + (j - 1) * spbrIn e
 
 -- The queue goes on after the entry that clock 1 takes: it isn't the one at ENDQP, or WREN is set.
 abbrev pub goesOn : Qspi → Bool

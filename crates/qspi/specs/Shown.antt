@@ -1,8 +1,10 @@
 -- All that is shown of an entry and of a queue.
-use Rattle.qspi.specs.Laws.{EdgesFall, LastEdge, SckTurns, SckRests, PcsShow, PcsDelay, MosiShows, MosiHolds, WordStored, UnusedZero, BitsInOrder, DelayRuns, NextStarts, QueueEnds, EntriesRun, QueueWraps, LastOfQueue, NotSooner, FaultAbandons, WriteAbandons}
+use Rattle.qspi.specs.Laws.{HoldRuns, EdgeFormula, EdgesFall, LastEdge, SckTurns, SckRests, PcsShow, PcsDelay, MosiShows, MosiHolds, WordStored, UnusedZero, BitsInOrder, DelayRuns, NextStarts, QueueEnds, EntriesRun, QueueWraps, LastOfQueue, NotSooner, FaultAbandons, WriteAbandons}
 use Rattle.qspi.specs.Marked.{K7, K8, K9, K10}
 
 pub record Shown : Type 0 where
+  pub hold-runs : HoldRuns
+  pub edge-formula : EdgeFormula
   pub edges-fall : EdgesFall
   pub last-edge : LastEdge
   pub sck-turns : SckTurns

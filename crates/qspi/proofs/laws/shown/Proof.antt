@@ -1,6 +1,6 @@
 use Rattle.qspi.proofs.laws.shown.Statement.{statement}
 use Rattle.qspi.proofs.laws.shown.Tie as tie
-use Rattle.qspi.proofs.Edges.{edges-fall, last-edge}
+use Rattle.qspi.proofs.Edges.{hold-runs, edge-formula, edges-fall, last-edge}
 use Rattle.qspi.proofs.Lines.{sck-turns, sck-rests, pcs-show, pcs-delay, fault-abandons, write-abandons}
 use Rattle.qspi.proofs.Mosi.{mosi-shows, mosi-holds}
 use Rattle.qspi.proofs.Word.{word-stored, unused-zero, bits-in-order}
@@ -11,6 +11,8 @@ use Rattle.qspi.proofs.Marked.{k7, k8, k9, k10}
 returns : tie.Need-returns
 returns c =
     record {
+      hold-runs = hold-runs;
+      edge-formula = edge-formula;
       edges-fall = edges-fall;
       last-edge = last-edge;
       sck-turns = sck-turns;
