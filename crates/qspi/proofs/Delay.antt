@@ -2,14 +2,15 @@
 use mathlib.Core.Path.{_≡_, refl, sym, ap, subst, _∙_}
 use mathlib.Core.Bool.{Bool, true, false, not, cond, _&&_, _||_}
 use Prim.Native.Nat.{ℕ, zero, suc, _+_, _-_, _*_, _/_, _%_, _≤_, _<_}
-use native.Mathlib.Nat.{add-zero, add-suc, zero-add}
+use native.Mathlib.Nat.{add-zero, add-suc, zero-add, div-one}
 use native.Mathlib.Omega.{arith}
 use lib.Dec.{eqb, leb}
-use borrow.Author.Tests.{lt-leb, ne-eqb}
-use Rattle.qspi.specs.Fields.{spe, wren, endqp, halt, cont}
-use Rattle.qspi.specs.Queue.{clock, queueClock, delayClock, entryAt, ready, selected, stored, finished, wrapped, advanced}
-use Rattle.qspi.specs.Entry.{run, entry, bitsIn, spbrIn, delayIn, lastClock, lengthIn, during, waiting, waited}
-use Rattle.qspi.specs.Laws.{Starting, Calm, goesOn, DelayRuns, NextStarts, QueueEnds}
+use borrow.Author.Tests.{lt-leb, ne-eqb, eqb-false}
+use Rattle.steps.specs.Bits.{bit}
+use Rattle.qspi.specs.Fields.{spbr, spe, wren, endqp, halt, cont}
+use Rattle.qspi.specs.Queue.{clock, queueClock, startClock, delayClock, entryAt, ready, selected, stored, finished, wrapped, advanced}
+use Rattle.qspi.specs.Entry.{run, entry, bitsIn, spbrIn, delayIn, lastClock, lengthIn, during, waiting, waited, stopped}
+use Rattle.qspi.specs.Laws.{Starting, Calm, Halted, goesOn, DelayRuns, NextStarts, HaltComes, HaltHolds, HaltReleases, QueueEnds}
 use Rattle.qspi.specs.declared.Qspi.{Qspi}
 use Rattle.qspi.specs.declared.Pins.{Pins}
 use Rattle.qspi.proofs.Bounds.{delay-pos}
@@ -28,6 +29,10 @@ run-add pins c (suc d) q =
 and-same : (b : Bool) → b && b ≡ b
 and-same true = refl
 and-same false = refl
+
+or-true : (b : Bool) → b || true ≡ true
+or-true true = refl
+or-true false = refl
 
 or-false : (b : Bool) → b || false ≡ b
 or-false true = refl
@@ -69,6 +74,13 @@ module _ (q : Qspi) (pins : ℕ → Pins) (on : spe (q .spcr1) ≡ true) (p : q 
       (clock-delaying (waiting q 1) (pins (suc c)) on p w (calm (suc c))
       ∙ rw (h, or-false (q .halta), and-same (cont (q .command))))
 
+  over-halted : (c : ℕ) → halt (q .spcr3) ≡ true → run pins c q ≡ waiting q 1 → run pins (suc c) q ≡ stopped q
+  unfolding run delayClock
+  over-halted c h e =
+      rw e
+      (clock-delaying (waiting q 1) (pins (suc c)) on p w (calm (suc c))
+      ∙ rw (h, or-true (q .halta), and-same (cont (q .command))))
+
   pub waits : (d : ℕ) → 0 < d → d < q .left → run pins d q ≡ waiting q (q .left - d)
   waits zero pos less = absurd (omega arith)
   waits (suc d) pos less =
@@ -76,12 +88,21 @@ module _ (q : Qspi) (pins : ℕ → Pins) (on : spe (q .spcr1) ≡ true) (p : q 
       let rest : suc (q .left - suc (suc d)) ≡ q .left - suc d = omega arith in
       wait d (q .left - suc (suc d)) parts ∙ ap (waiting q) rest
 
+  -- In the delay's last clock.
+  last-wait : 2 ≤ q .left → run pins (q .left - 1) q ≡ waiting q 1
+  last-wait two =
+      let one : q .left - (q .left - 1) ≡ 1 = omega arith in
+      waits (q .left - 1) (omega arith) (omega arith) ∙ ap (waiting q) one
+
   pub waits-over : 2 ≤ q .left → halt (q .spcr3) ≡ false → run pins (q .left) q ≡ waited q
   waits-over two h =
       let full : suc (q .left - 1) ≡ q .left = omega arith in
-      let one : q .left - (q .left - 1) ≡ 1 = omega arith in
-      ap (λ k. run pins k q) (sym full)
-      ∙ over (q .left - 1) h (waits (q .left - 1) (omega arith) (omega arith) ∙ ap (waiting q) one)
+      ap (λ k. run pins k q) (sym full) ∙ over (q .left - 1) h (last-wait two)
+
+  pub waits-halted : 2 ≤ q .left → halt (q .spcr3) ≡ true → run pins (q .left) q ≡ stopped q
+  waits-halted two h =
+      let full : suc (q .left - 1) ≡ q .left = omega arith in
+      ap (λ k. run pins k q) (sym full) ∙ over-halted (q .left - 1) h (last-wait two)
 
 -- The entry at edge 2n.
 abbrev atEnd : Qspi → (ℕ → Pins) → Qspi
@@ -150,6 +171,57 @@ module _ (q : Qspi) (pins : ℕ → Pins) (s : Starting q) (calm : Calm pins) (g
           not-delaying = refl;
           goes = rw after-spcr0 (rw (and-left (leb 2 (spbrIn q)) _ (s .goes)));
         })
+
+  module _ (sets : halt (q .spcr3) ≡ true) where
+    halted-here : run pins (lengthIn (entry q)) q ≡ stopped (run pins (lastClock (entry q)) q)
+    halted-here =
+        run-add pins (lastClock (entry q)) (delayIn (entry q)) q
+        ∙ ap (λ l. run (λ k. pins (lastClock (entry q) + k)) l (run pins (lastClock (entry q)) q)) (sym after-left)
+        ∙ waits-halted (run pins (lastClock (entry q)) q) (λ k. pins (lastClock (entry q) + k)) after-on
+        (field-on (λ r. r .playing) false refl refl) (field-on (λ r. r .delaying) true refl refl)
+        (field-on (λ r. r .selecting) true refl refl) (shifted-calm (lastClock (entry q)))
+        (rw after-left (omega (arith, delay-pos (q .spcr1) (entry q .command)))) (ap halt after-spcr3 ∙ sets)
+
+    waits-here : Halted (run pins (lengthIn (entry q)) q)
+    waits-here =
+        subst Halted (sym halted-here)
+        (record {
+          on = after-on;
+          not-playing = refl;
+          not-delaying = refl;
+          halted = refl;
+          fast = ap (λ w. leb 2 (spbr w)) after-spcr0 ∙ and-left (leb 2 (spbrIn q)) _ (s .goes);
+        })
+
+pub halt-comes : HaltComes
+halt-comes q pins s calm goes sets = (halted-here q pins s calm goes sets, waits-here q pins s calm goes sets)
+
+clock-halted : (q : Qspi) (pins : Pins) → Halted q → selected pins ≡ false → halt (q .spcr3) ≡ true → clock q pins ≡ q
+unfolding clock queueClock startClock
+clock-halted q pins h calm sets =
+    rw (no-fault q pins calm, h .on, h .not-playing, h .not-delaying, h .fast, h .halted, sets)
+
+pub halt-holds : HaltHolds
+unfolding run
+halt-holds q pins h calm sets zero = refl
+halt-holds q pins h calm sets (suc d) =
+    ap (λ r. clock r (pins (suc d))) (halt-holds q pins h calm sets d)
+    ∙ clock-halted q (pins (suc d)) h (calm (suc d)) sets
+
+-- HALT is bit 8 of the word at 1E.
+cleared : (v : ℕ) → bit 8 v ≡ false → halt (v / 256 % 256 % 8) ≡ false
+cleared v h =
+    ne-eqb (v / 256 % 256 % 8 / 1 % 2) 1
+    (λ e. eqb-false (v / 256 % 2) 1 h (omega (arith, div-one (v / 256 % 256 % 8))))
+
+pub halt-releases : HaltReleases
+halt-releases q v lower h clear =
+    record {
+      on = h .on;
+      not-playing = h .not-playing;
+      not-delaying = h .not-delaying;
+      goes = rw (h .fast, h .halted, cleared v clear);
+    }
 
 pub delay-runs : DelayRuns
 delay-runs q pins s calm goes d pos less = delay-here q pins s calm goes d pos less

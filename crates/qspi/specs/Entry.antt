@@ -1,10 +1,10 @@
 -- A run of the queue with no access in between, and the clocks of an entry.
-use mathlib.Core.Bool.{Bool, false, cond}
+use mathlib.Core.Bool.{Bool, true, false, cond}
 use Prim.Native.Nat.{ℕ, zero, suc, _+_, _-_, _*_, _/_, _%_}
 use lib.ListN.{getD}
 use Rattle.steps.specs.Bits.{digit}
 use Rattle.qspi.specs.Fields.{cpha, spbr, endqp, cont, bitsOf, preDelay, delayAfter}
-use Rattle.qspi.specs.State.{withPlace, withCount, withSelecting, withMosi, withCollected}
+use Rattle.qspi.specs.State.{withFlags, withPlace, withCount, withSelecting, withMosi, withCollected}
 use Rattle.qspi.specs.Queue.{mosiAfter, collectedAfter, entryAt, loaded, started, misoOf, clock}
 use Rattle.qspi.specs.declared.Qspi.{Qspi}
 use Rattle.qspi.specs.declared.Pins.{Pins}
@@ -78,6 +78,13 @@ waiting q left = withSelecting (withCount q left (q .edges)) (cont (q .command))
 
 abbrev pub waited : Qspi → Qspi
 waited q = withSelecting (withCount (withPlace q false false false) 0 (q .edges)) (cont (q .command))
+
+-- After it when HALT is set: HALTA has risen.
+abbrev pub stopped : Qspi → Qspi
+stopped q =
+    withSelecting
+    (withCount (withPlace (withFlags q (q .spif) (q .modf) true) false false true) 0 (q .edges))
+    (cont (q .command))
 
 -- The bit of the word, counted from its highest, that MOSI shows when j edges have fallen.
 abbrev pub bitShown : Bool → ℕ → ℕ

@@ -2,15 +2,15 @@
 use mathlib.Core.Path.{_≡_}
 use mathlib.Core.Bool.{Bool, true, false, cond, not, _||_}
 use Prim.Native.Nat.{ℕ, zero, suc, _+_, _-_, _*_, _/_, _%_, _^_, _≤_, _<_}
-use lib.Dec.{eqb}
+use lib.Dec.{eqb, leb}
 use lib.ListN.{set}
 use Rattle.steps.specs.Bits.{bit}
 use Rattle.steps.specs.Iterate.{iterate}
 use Rattle.qspi.specs.Fields.{cpol, cpha, spe, wren, endqp, halt, cont, pcsField}
-use Rattle.qspi.specs.Registers.{writeSpcr1}
+use Rattle.qspi.specs.Registers.{writeSpcr1, writeSpcr3Spsr}
 use Rattle.qspi.specs.Queue.{entryAt, completed, ready, selected, wrapTo, faultNow, clock}
 use Rattle.qspi.specs.Outputs.{sck, pcs}
-use Rattle.qspi.specs.Entry.{run, entry, bitsIn, preIn, spbrIn, delayIn, edgeClock, gap, lastClock, lengthIn, during, waiting, waited, bitShown, wordOf, bitsRead, entryNo, beginsAt, entriesBefore, endsAt}
+use Rattle.qspi.specs.Entry.{run, entry, bitsIn, preIn, spbrIn, delayIn, edgeClock, gap, lastClock, lengthIn, during, waiting, waited, stopped, bitShown, wordOf, bitsRead, entryNo, beginsAt, entriesBefore, endsAt}
 use Rattle.qspi.specs.declared.Qspi.{Qspi}
 use Rattle.qspi.specs.declared.Pins.{Pins}
 
@@ -125,6 +125,30 @@ NextStarts =
     (q : Qspi) (pins : ℕ → Pins) → Starting q → Calm pins → goesOn q ≡ true → halt (q .spcr3) ≡ false →
     (run pins (lengthIn (entry q)) q ≡ waited (run pins (lastClock (entry q)) q))
     × Starting (run pins (lengthIn (entry q)) q)
+
+-- The next entry waits for HALT to clear.
+pub record Halted (q : Qspi) : Type 0 where
+  pub on : spe (q .spcr1) ≡ true
+  pub not-playing : q .playing ≡ false
+  pub not-delaying : q .delaying ≡ false
+  pub halted : q .halted ≡ true
+  pub fast : leb 2 (spbrIn q) ≡ true
+
+-- With HALT set at the delay's last clock HALTA rises there and the queue halts, for as long as HALT is set;
+-- after a write that clears it the next clock is clock 1.
+abbrev pub HaltComes : Type 0
+HaltComes =
+    (q : Qspi) (pins : ℕ → Pins) → Starting q → Calm pins → goesOn q ≡ true → halt (q .spcr3) ≡ true →
+    (run pins (lengthIn (entry q)) q ≡ stopped (run pins (lastClock (entry q)) q))
+    × Halted (run pins (lengthIn (entry q)) q)
+
+abbrev pub HaltHolds : Type 0
+HaltHolds =
+    (q : Qspi) (pins : ℕ → Pins) → Halted q → Calm pins → halt (q .spcr3) ≡ true → (d : ℕ) → run pins d q ≡ q
+
+abbrev pub HaltReleases : Type 0
+HaltReleases =
+    (q : Qspi) (v : ℕ) (lower : Bool) → Halted q → bit 8 v ≡ false → Starting (writeSpcr3Spsr q v true lower)
 
 -- The last entry without WREN ends at edge 2n: SPIF rises and SPE falls.
 abbrev pub QueueEnds : Type 0

@@ -1,5 +1,5 @@
 -- All that is shown of an entry and of a queue.
-use Rattle.qspi.specs.Laws.{HoldRuns, EdgeFormula, EdgesFall, LastEdge, SckTurns, SckRests, PcsShow, PcsDelay, MosiShows, MosiHolds, WordStored, UnusedZero, BitsInOrder, DelayRuns, NextStarts, QueueEnds, EntriesRun, QueueWraps, LastOfQueue, NotSooner, FaultAbandons, WriteAbandons}
+use Rattle.qspi.specs.Laws.{HoldRuns, EdgeFormula, EdgesFall, LastEdge, SckTurns, SckRests, PcsShow, PcsDelay, MosiShows, MosiHolds, WordStored, UnusedZero, BitsInOrder, DelayRuns, NextStarts, HaltComes, HaltHolds, HaltReleases, QueueEnds, EntriesRun, QueueWraps, LastOfQueue, NotSooner, FaultAbandons, WriteAbandons}
 use Rattle.qspi.specs.Marked.{K7, K8, K9, K10}
 
 pub record Shown : Type 0 where
@@ -18,6 +18,9 @@ pub record Shown : Type 0 where
   pub bits-in-order : BitsInOrder
   pub delay-runs : DelayRuns
   pub next-starts : NextStarts
+  pub halt-comes : HaltComes
+  pub halt-holds : HaltHolds
+  pub halt-releases : HaltReleases
   pub queue-ends : QueueEnds
   pub entries-run : EntriesRun
   pub queue-wraps : QueueWraps

@@ -4,7 +4,7 @@ use Rattle.qspi.proofs.Edges.{hold-runs, edge-formula, edges-fall, last
 use Rattle.qspi.proofs.Lines.{sck-turns, sck-rests, pcs-show, pcs-delay, fault-abandons, write-abandons}
 use Rattle.qspi.proofs.Mosi.{mosi-shows, mosi-holds}
 use Rattle.qspi.proofs.Word.{word-stored, unused-zero, bits-in-order}
-use Rattle.qspi.proofs.Delay.{delay-runs, next-starts, queue-ends}
+use Rattle.qspi.proofs.Delay.{delay-runs, next-starts, halt-comes, halt-holds, halt-releases, queue-ends}
 use Rattle.qspi.proofs.Order.{entries-run, queue-wraps, last-of-queue, not-sooner}
 use Rattle.qspi.proofs.Marked.{k7, k8, k9, k10}
 
@@ -26,6 +26,9 @@ returns c =
       bits-in-order = bits-in-order;
       delay-runs = delay-runs;
       next-starts = next-starts;
+      halt-comes = halt-comes;
+      halt-holds = halt-holds;
+      halt-releases = halt-releases;
       queue-ends = queue-ends;
       entries-run = entries-run;
       queue-wraps = queue-wraps;
