@@ -6,3 +6,4 @@ pub mod Framer
 pub mod Receiver
 pub mod Transmitter
 pub mod Serial
+pub mod Marked
