@@ -3,10 +3,10 @@ use mathlib.Core.Bool.{Bool, true, false, cond, not, _&&_, _||_}
 use Prim.Native.Nat.{ℕ, _%_}
 use lib.Dec.{eqb, ltb}
 use Rattle.steps.specs.Bits.{bit}
-use Rattle.qsm.specs.Target.{target, inMap, isRestricted, firstHalf, secondHalf}
-use Rattle.qsm.specs.Word.{put, unmodelled, guarded}
+use Rattle.qsm.specs.Lanes.{halves, upperLane, lowerLane, inMap, isRestricted, lined}
+use Rattle.qsm.specs.Access.{stored}
 use Rattle.qsm.specs.declared.state.Module.{Module}
-use Rattle.qsm.specs.declared.target.Target.{Target}
+use Rattle.qsm.specs.declared.access.Store.{Store}
 use Rattle.qsm.specs.declared.decision.Decision.{Decision}
 use Rattle.qsm.specs.declared.decision.Decision.the-variants.{Permitted, Blocked, Misshapen, Unmapped, Unmodelled, Guarded}
 
@@ -28,8 +28,8 @@ abbrev pub fits : ℕ → ℕ → Bool
 fits width value = cond (eqb width 1) (ltb value 256) (cond (eqb width 2) (ltb value 65536) true)
 
 -- User access to QSMCR, QILR, QIVR, or to anything else while SUPV is set.
-abbrev pub barred : Module → Bool → Target → Bool
-barred m supervisor t = not supervisor && (bit 7 (m .qsmcr) || isRestricted t)
+abbrev pub barred : Module → Bool → ℕ → ℕ → Bool
+barred m supervisor width offset = not supervisor && (bit 7 (m .qsmcr) || isRestricted width offset)
 
 -- 1, 2, privilege.
 abbrev pub gate : Bool → Bool → Bool → Decision
@@ -47,31 +47,25 @@ permits Unmapped = false
 permits Unmodelled = false
 permits Guarded = false
 
+abbrev pub tested : Decision → Bool → Bool → Bool → Decision
+tested admitted permitted unmodelled guarded = cond permitted (verdict unmodelled guarded) admitted
+
+unfoldable pub admitted : Module → Bool → Bool → ℕ → ℕ → Decision
+admitted m shaped supervisor width offset = gate shaped (inMap width offset) (barred m supervisor width offset)
+
 unfoldable pub decideRead : Module → Bool → ℕ → ℕ → Decision
-decideRead m supervisor width offset =
-    gate (shaped width offset) (inMap (target width offset)) (barred m supervisor (target width offset))
+decideRead m supervisor width offset = admitted m (shaped width offset) supervisor width offset
 
--- What a write's first half would leave, as if it were let through.
-abbrev pub halfWritten : Module → Target → ℕ → Module
-halfWritten m t v = put m (t .first) v (t .upper) (t .lower)
+-- What a write makes of its words.
+unfoldable pub storedBy : Module → ℕ → ℕ → ℕ → Store
+storedBy m width offset value =
+    stored m offset (halves width) (lined width value) (upperLane width offset) (lowerLane width offset)
 
-abbrev pub testedWord : Module → Target → ℕ → Decision
-testedWord m t v =
-    verdict (unmodelled m (t .first) v (t .upper) (t .lower)) (guarded m (t .first) v (t .upper) (t .lower))
-
--- The second half of a long is tested against what the first would leave, and a 3 in either comes before a 4.
-abbrev pub testedLong : Module → Module → Target → ℕ → ℕ → Decision
-testedLong m half t v low =
-    verdict
-    (unmodelled m (t .first) v (t .upper) (t .lower) || unmodelled half (t .second) low true true)
-    (guarded m (t .first) v (t .upper) (t .lower) || guarded half (t .second) low true true)
-
-unfoldable pub tested : Module → Target → ℕ → ℕ → Decision
-tested m t v low = cond (t .long) (testedLong m (halfWritten m t v) t v low) (testedWord m t v)
+unfoldable pub decideStored : Module → Store → Bool → ℕ → ℕ → ℕ → Decision
+decideStored m s supervisor width offset value =
+    let d : Decision = admitted m (shaped width offset && fits width value) supervisor width offset in
+    tested d (permits d) (s .unmodelled) (s .guarded)
 
 unfoldable pub decideWrite : Module → Bool → ℕ → ℕ → ℕ → Decision
 decideWrite m supervisor width offset value =
-    let admitted : Decision =
-    gate (shaped width offset && fits width value) (inMap (target width offset))
-    (barred m supervisor (target width offset)) in
-    cond (permits admitted) (tested m (target width offset) (firstHalf width value) (secondHalf value)) admitted
+    decideStored m (storedBy m width offset value) supervisor width offset value

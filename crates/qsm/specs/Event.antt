@@ -1,21 +1,22 @@
 -- Document 01: events and answers. An event is a reset, a hold or an access, and an access is a read or a write.
 use mathlib.Core.Bool.{Bool, true, false, cond}
-use Prim.Native.Nat.{ℕ, _+_, _*_, _/_, _%_}
-use lib.Dec.{eqb}
+use Prim.Native.Nat.{ℕ}
 use Rattle.steps.specs.Iterate.{iterate}
 use Rattle.sci.specs.Serial.{clocked}
 use Rattle.sci.specs.Serial as serial
 use Rattle.qspi.specs.Queue.{clock}
 use Rattle.qspi.specs.Outputs as queue
 use Rattle.qspi.specs.declared.Pins.{Pins}
-use Rattle.qsm.specs.State.{resetModule}
+use Rattle.qsm.specs.State.{resetModule, withSci, withQspi}
 use Rattle.qsm.specs.Pins.{outputs, mask, levels}
 use Rattle.qsm.specs.Request.{request}
-use Rattle.qsm.specs.Word.{peek, touch, put}
-use Rattle.qsm.specs.Target.{target, firstHalf, secondHalf}
-use Rattle.qsm.specs.Decision.{refusalOf, permits, decideRead, halfWritten, decideWrite}
+use Rattle.qsm.specs.Lanes.{halves, upperLane, touches, lane}
+use Rattle.qsm.specs.Serial.{serialRead}
+use Rattle.qsm.specs.Queue.{queueRead}
+use Rattle.qsm.specs.Access.{fetched}
+use Rattle.qsm.specs.Decision.{refusalOf, permits, decideRead, storedBy, decideStored}
 use Rattle.qsm.specs.declared.state.Module.{Module}
-use Rattle.qsm.specs.declared.target.Target.{Target}
+use Rattle.qsm.specs.declared.access.Store.{Store}
 use Rattle.qsm.specs.declared.decision.Decision.{Decision}
 use Rattle.qsm.specs.declared.request.Request.{Request}
 use Rattle.qsm.specs.declared.event.Access.{Access}
@@ -84,28 +85,27 @@ held m pins =
       inputs = pins;
     }
 
--- A byte, a word, or two words of which the second is read after the first.
-abbrev pub readValue : Module → Target → ℕ → ℕ
-readValue m t width =
-    cond (eqb width 1) (cond (t .upper) (peek m (t .first) / 256) (peek m (t .first) % 256))
-    (cond (t .long) (peek m (t .first) * 65536 + peek (touch m (t .first) (t .lower)) (t .second)) (peek m (t .first)))
+-- What a read leaves: it minds only SCSR (either byte), SCDR's low byte and SPSR.
+unfoldable pub afterRead : Module → ℕ → ℕ → Module
+afterRead m width offset =
+    withQspi
+    (withSci m (serialRead (touches 0x0C 2 width offset) (touches 0x0F 1 width offset) (m .sci)))
+    (queueRead (touches 0x1F 1 width offset) (m .qspi))
 
-abbrev pub readDone : Module → Target → Module
-readDone m t =
-    cond (t .long) (touch (touch m (t .first) (t .lower)) (t .second) true) (touch m (t .first) (t .lower))
+-- A byte, a word, or two words.
+unfoldable pub readValue : Module → ℕ → ℕ → ℕ
+readValue m width offset = lane width (upperLane width offset) (fetched m offset (halves width))
 
 -- What is refused or blocked gives value 0 and leaves the module as it was.
 unfoldable pub refused : Decision → Module → Done
 refused d m = done m (refusalOf d) 0
 
-abbrev pub readDecided : Decision → Module → Target → ℕ → Done
-readDecided d m t width = cond (permits d) (done (readDone m t) 0 (readValue m t width)) (refused d m)
+abbrev pub readDecided : Decision → Module → ℕ → ℕ → Done
+readDecided d m width offset =
+    cond (permits d) (done (afterRead m width offset) 0 (readValue m width offset)) (refused d m)
 
-abbrev pub writeDone : Module → Target → ℕ → ℕ → Module
-writeDone m t v low = cond (t .long) (put (halfWritten m t v) (t .second) low true true) (halfWritten m t v)
-
-abbrev pub writeDecided : Decision → Module → Target → ℕ → ℕ → Done
-writeDecided d m t v low = cond (permits d) (done (writeDone m t v low) 0 0) (refused d m)
+abbrev pub writeDecided : Decision → Module → Store → Done
+writeDecided d m s = cond (permits d) (done (s .state) 0 0) (refused d m)
 
 unfoldable pub resets : Done
 resets = done resetModule 0 0
@@ -114,13 +114,12 @@ unfoldable pub holds : Module → ℕ → Bool → ℕ → Done
 holds m pins rxd n = done (clocks (held m pins) rxd n) 0 0
 
 unfoldable pub reads : Module → Bool → ℕ → ℕ → Done
-reads m supervisor width offset =
-    readDecided (decideRead m supervisor width offset) m (target width offset) width
+reads m supervisor width offset = readDecided (decideRead m supervisor width offset) m width offset
 
 unfoldable pub writes : Module → Bool → ℕ → ℕ → ℕ → Done
 writes m supervisor width offset value =
-    writeDecided (decideWrite m supervisor width offset value) m (target width offset) (firstHalf width value)
-    (secondHalf value)
+    writeDecided (decideStored m (storedBy m width offset value) supervisor width offset value) m
+    (storedBy m width offset value)
 
 abbrev pub accesses : Module → Access → Done
 accesses m (Read supervisor width offset) = reads m supervisor width offset

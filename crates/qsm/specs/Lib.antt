@@ -6,6 +6,7 @@ pub mod Own
 pub mod Serial
 pub mod Queue
 pub mod Word
-pub mod Target
+pub mod Lanes
+pub mod Access
 pub mod Decision
 pub mod Event

@@ -1,8 +1,7 @@
 -- Document 01, Pins: 0 to 7 are MISO, MOSI, SCK, PCS0 to PCS3, TXD.
-use mathlib.Core.Bool.{Bool, cond, not, _&&_, _||_}
-use Prim.Native.Nat.{ℕ, _+_, _*_, _%_}
-use lib.Dec.{eqb}
-use Rattle.steps.specs.Bits.{bit}
+use mathlib.Core.Bool.{Bool, cond}
+use Prim.Native.Nat.{ℕ, _-_, _*_, _%_}
+use lib.Bits.{bitAnd, bitOr}
 use Rattle.sci.specs.Serial.{txdDriven, txd}
 use Rattle.qspi.specs.Outputs.{enabled, sck, pcs}
 use Rattle.qsm.specs.declared.state.Module.{Module}
@@ -23,46 +22,34 @@ outputs m =
       ddrqs = m .ddrqs;
     }
 
--- With SPE clear DDRQS rules pins 0 to 6. With SPE set SCK is the queue's whatever DDRQS says, and an assigned MISO isn't driven. TXD is
--- driven by the transmitter, else by DDRQS.
-unfoldable pub driven : Outputs → ℕ → Bool
-driven o k =
-    cond (eqb k 0) (bit 0 (o .ddrqs) && not (o .spe && bit 0 (o .pqspar)))
-    (cond (eqb k 2) (o .spe || bit 2 (o .ddrqs))
-    (cond (eqb k 7) (o .driving || bit 7 (o .ddrqs)) (bit (k % 8) (o .ddrqs))))
+-- Pins of a that are not in b.
+abbrev pub without : ℕ → ℕ → ℕ
+without a b = a - bitAnd a b
 
--- With SPE set SCK and the assigned MOSI and PCS are the queue's; PORTQS rules the rest.
-unfoldable pub level : Outputs → ℕ → Bool
-level o k =
-    cond (eqb k 1) (cond (o .spe && bit 1 (o .pqspar)) (o .mosi) (bit 1 (o .portqs)))
-    (cond (eqb k 2) (cond (o .spe) (o .sck) (bit 2 (o .portqs)))
-    (cond (eqb k 3) (cond (o .spe && bit 3 (o .pqspar)) (bit 0 (o .pcs)) (bit 3 (o .portqs)))
-    (cond (eqb k 4) (cond (o .spe && bit 4 (o .pqspar)) (bit 1 (o .pcs)) (bit 4 (o .portqs)))
-    (cond (eqb k 5) (cond (o .spe && bit 5 (o .pqspar)) (bit 2 (o .pcs)) (bit 5 (o .portqs)))
-    (cond (eqb k 6) (cond (o .spe && bit 6 (o .pqspar)) (bit 3 (o .pcs)) (bit 6 (o .portqs)))
-    (cond (eqb k 7) (cond (o .driving) (o .txd) (bit 7 (o .portqs))) (bit (k % 8) (o .portqs))))))))
+-- The levels of a for the pins of a set, of b for the others.
+abbrev pub select : ℕ → ℕ → ℕ → ℕ
+select pins a b = bitOr (bitAnd a pins) (without b pins)
 
--- A driven pin shows its level, another the level of `inputs`.
-unfoldable pub shown : Outputs → ℕ → ℕ → Bool
-shown o inputs k = cond (driven o k) (level o k) (bit (k % 8) inputs)
-
--- A byte with one more bit below the others, and the byte of eight bits.
-unfoldable pub shiftIn : Bool → ℕ → ℕ
-shiftIn b rest = cond b (rest % 128 * 2 + 1) (rest % 128 * 2)
-
-abbrev pub byteOf : (ℕ → Bool) → ℕ
-byteOf f =
-    shiftIn (f 0)
-    (shiftIn (f 1) (shiftIn (f 2) (shiftIn (f 3) (shiftIn (f 4) (shiftIn (f 5) (shiftIn (f 6) (shiftIn (f 7) 0)))))))
-
--- The driven pins.
+-- The driven pins: those of DDRQS, but with SPE set an assigned MISO isn't, and SCK (bit 2) is whatever DDRQS says; TXD (bit 7) while the
+-- transmitter drives it.
 unfoldable pub mask : Outputs → ℕ
-mask o = byteOf (driven o)
+mask o =
+    bitOr (bitOr (without (o .ddrqs) (cond (o .spe) (bitAnd (o .pqspar) 1) 0)) (cond (o .spe) 4 0))
+    (cond (o .driving) 128 0)
+
+-- With SPE set SCK and the assigned MOSI (bit 1) and PCS (bits 6:3) are the queue's, while it drives TXD is the transmitter's; the rest is
+-- PORTQS's.
+unfoldable pub owned : Outputs → ℕ
+owned o = bitOr (cond (o .spe) (bitOr (bitAnd (o .pqspar) 0x7A) 4) 0) (cond (o .driving) 128 0)
+
+unfoldable pub ownLevels : Outputs → ℕ
+ownLevels o =
+    bitOr (bitOr (bitOr (cond (o .mosi) 2 0) (cond (o .sck) 4 0)) (o .pcs % 16 * 8)) (cond (o .txd) 128 0)
+
+-- Undriven levels are 0.
+unfoldable pub levels : Outputs → ℕ
+levels o = bitAnd (select (owned o) (ownLevels o) (o .portqs)) (mask o)
 
 -- PORTQS reads driven levels, else the last input.
 unfoldable pub portqsRead : Outputs → ℕ → ℕ
-portqsRead o inputs = byteOf (shown o inputs)
-
--- Undriven levels are 0.
-abbrev pub levels : Outputs → ℕ
-levels o = portqsRead o 0
+portqsRead o inputs = select (mask o) (levels o) inputs

@@ -16,15 +16,9 @@ peekQueue q (Receive i) = receiveWord q i
 peekQueue q (Transmit i) = transmitWord q i
 peekQueue q (Command i) = commandWord q i
 
--- A read that touches byte 1F.
-unfoldable pub touchQueue : Qspi → QueueWord → Bool → Qspi
-touchQueue q Spcr0 lower = q
-touchQueue q Spcr1 lower = q
-touchQueue q Spcr2 lower = q
-touchQueue q Spcr3Spsr lower = cond lower (statusRead q) q
-touchQueue q (Receive i) lower = q
-touchQueue q (Transmit i) lower = q
-touchQueue q (Command i) lower = q
+-- What a read leaves that touches byte 1F.
+unfoldable pub queueRead : Bool → Qspi → Qspi
+queueRead status q = cond status (statusRead q) q
 
 unfoldable pub putQueue : Qspi → QueueWord → ℕ → Bool → Bool → Qspi
 putQueue q Spcr0 v upper lower = writeSpcr0 q v upper lower

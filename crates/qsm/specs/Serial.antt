@@ -14,12 +14,9 @@ peekSerial s Sccr1 = sccr1Word s
 peekSerial s Scsr = s .status .flags .bits % 512
 peekSerial s Scdr = s .receiver .scdr % 512
 
--- A read of either byte of SCSR; a read of SCDR's low byte or word.
-unfoldable pub touchSerial : Sci → SerialWord → Bool → Sci
-touchSerial s Sccr0 lower = s
-touchSerial s Sccr1 lower = s
-touchSerial s Scsr lower = statusRead s
-touchSerial s Scdr lower = cond lower (dataRead s) s
+-- What a read leaves that touches SCSR, SCDR's low byte, or both: status, then data.
+unfoldable pub serialRead : Bool → Bool → Sci → Sci
+serialRead status low s = cond low (dataRead (cond status (statusRead s) s)) (cond status (statusRead s) s)
 
 -- A write of SCSR does nothing.
 unfoldable pub putSerial : Sci → SerialWord → ℕ → Bool → Bool → Sci

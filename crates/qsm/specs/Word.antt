@@ -1,11 +1,11 @@
--- Document 01, Register map: a word of the map as it is read, what a read of it leaves, what a write makes of it, and what a write is
+-- Document 01, Register map: a word of the map as it is read, what a write makes of it, and what a write is
 -- refused for. `upper` and `lower` say which of its bytes an access touches.
 use mathlib.Core.Bool.{Bool, false}
 use Prim.Native.Nat.{ℕ}
 use Rattle.qsm.specs.State.{withSci, withQspi}
 use Rattle.qsm.specs.Own.{peekOwn, putOwn, ownUnmodelled}
-use Rattle.qsm.specs.Serial.{peekSerial, touchSerial, putSerial, serialUnmodelled, serialGuarded}
-use Rattle.qsm.specs.Queue.{peekQueue, touchQueue, putQueue, queueUnmodelled, queueGuarded}
+use Rattle.qsm.specs.Serial.{peekSerial, putSerial, serialUnmodelled, serialGuarded}
+use Rattle.qsm.specs.Queue.{peekQueue, putQueue, queueUnmodelled, queueGuarded}
 use Rattle.qsm.specs.declared.map.Place.{Place}
 use Rattle.qsm.specs.declared.map.Place.the-variants.{Own, Serial, Queue, Hole}
 use Rattle.qsm.specs.declared.state.Module.{Module}
@@ -15,12 +15,6 @@ peek m (Own w) = peekOwn m w
 peek m (Serial w) = peekSerial (m .sci) w
 peek m (Queue w) = peekQueue (m .qspi) w
 peek m Hole = 0
-
-unfoldable pub touch : Module → Place → Bool → Module
-touch m (Own w) lower = m
-touch m (Serial w) lower = withSci m (touchSerial (m .sci) w lower)
-touch m (Queue w) lower = withQspi m (touchQueue (m .qspi) w lower)
-touch m Hole lower = m
 
 unfoldable pub put : Module → Place → ℕ → Bool → Bool → Module
 put m (Own w) v upper lower = putOwn m w v upper lower

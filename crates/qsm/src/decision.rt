@@ -1,14 +1,10 @@
 // What becomes of an access: refusals 1 and 2, privilege, refusals 3 and 4, in this order.
 ghost use mathlib.Core.Path.{_≡_};
-ghost use mathlib.Core.Bool.{cond};
-ghost use Rattle.qsm.specs.Decision.{refusalOf, shaped, fits, gate, verdict, permits, barred, decideRead, halfWritten, testedWord, testedLong, tested, decideWrite};
+ghost use Rattle.qsm.specs.Decision.{refusalOf, shaped, fits, gate, verdict, permits, tested, barred, admitted, decideRead, decideStored};
+use crate::access::Store;
+use crate::lanes::in_map;
+use crate::lanes::is_restricted;
 use crate::state::Module;
-use crate::target::Target;
-use crate::target::first_half;
-use crate::target::in_map;
-use crate::target::is_restricted;
-use crate::target::second_half;
-use crate::target::target_of;
 
 pub enum Decision {
     Permitted,
@@ -99,89 +95,60 @@ pub fn permits(d: Decision) -> bool
     }
 }
 
+// Refusals 3 and 4, where nothing came before them. A 3 in either half of a long comes before a 4.
+fn tested(admitted: Decision, permitted: bool, unmodelled: bool, guarded: bool) -> Decision
+    ensures { λ r. ⌜ r ≡ tested admitted permitted unmodelled guarded ⌝ }
+{
+    if permitted {
+        verdict(unmodelled, guarded)
+    } else {
+        admitted
+    }
+}
+
 impl Module {
     // A user's access to QSMCR, QILR, QIVR, or to anything while SUPV is set.
-    fn barred(self, supervisor: bool, t: Target) -> bool
-        ensures { λ r. ⌜ r ≡ barred self supervisor t ⌝ }
+    fn barred(self, supervisor: bool, width: u8, offset: u16) -> bool
+        ensures { λ r. ⌜ r ≡ barred self supervisor width offset ⌝ }
     {
-        !supervisor & ((self.qsmcr / 128 % 2 == 1) | is_restricted(t))
+        !supervisor & ((self.qsmcr / 128 % 2 == 1) | is_restricted(width, offset))
+    }
+
+    fn admitted(self, shaped: bool, supervisor: bool, width: u8, offset: u16) -> Decision
+        ensures { λ r. ⌜ r ≡ admitted self shaped supervisor width offset ⌝ }
+    {
+        gate(
+            shaped,
+            in_map(width, offset),
+            self.barred(supervisor, width, offset),
+        )
     }
 
     // Ruled out: a user's read of QILR permitted; privilege before refusal 2.
     pub fn decide_read(self, supervisor: bool, width: u8, offset: u16) -> Decision
         ensures { λ r. ⌜ r ≡ decideRead self supervisor width offset ⌝ }
     {
-        let t = target_of(width, offset);
-        gate(shaped(width, offset), in_map(t), self.barred(supervisor, t))
+        self.admitted(shaped(width, offset), supervisor, width, offset)
     }
 
-    // The module that a write's first half would leave, as if it were let through.
-    // Ruled out: a half that is tested first; the second half put.
-    pub fn half_written(self, t: Target, v: u16) -> Module
-        ensures { λ r. ⌜ r ≡ halfWritten self t v ⌝ }
+    // What becomes of a write, of which `s` is the words' outcome.
+    // Ruled out: every access refused; refusal 4 before 3.
+    pub fn decide_write(
+        self,
+        s: Store,
+        supervisor: bool,
+        width: u8,
+        offset: u16,
+        value: u32,
+    ) -> Decision
+        ensures { λ r. ⌜ r ≡ decideStored self s supervisor width offset value ⌝ }
     {
-        let first = t.first;
-        self.put(first, v, t.upper, t.lower)
-    }
-
-    fn tested_word(self, t: Target, v: u16) -> Decision
-        ensures { λ r. ⌜ r ≡ testedWord self t v ⌝ }
-    {
-        let first = t.first;
-        verdict(
-            self.unmodelled(first, v, t.upper, t.lower),
-            self.guarded(first, v, t.upper, t.lower),
-        )
-    }
-
-    fn tested_long(self, half: Module, t: Target, v: u16, low: u16) -> Decision
-        ensures { λ r. ⌜ r ≡ testedLong self half t v low ⌝ }
-    {
-        let first = t.first;
-        let second = t.second;
-        verdict(
-            self.unmodelled(first, v, t.upper, t.lower) | half.unmodelled(second, low, true, true),
-            self.guarded(first, v, t.upper, t.lower) | half.guarded(second, low, true, true),
-        )
-    }
-
-    // Refusals 3 and 4.
-    fn tested(self, t: Target, v: u16, low: u16) -> Decision
-        ensures { λ r. ⌜ r ≡ tested self t v low ⌝ }
-    {
-        if t.long {
-            self.tested_long(self.half_written(t, v), t, v, low)
-        } else {
-            self.tested_word(t, v)
-        }
-    }
-
-    fn tested_if(self, admitted: Decision, permitted: bool, t: Target, v: u16, low: u16) -> Decision
-        ensures { λ r. ⌜ r ≡ cond permitted (tested self t v low) admitted ⌝ }
-    {
-        if permitted {
-            self.tested(t, v, low)
-        } else {
-            admitted
-        }
-    }
-
-    // Ruled out: every access refused; refusal 4 before 3 in a long.
-    pub fn decide_write(self, supervisor: bool, width: u8, offset: u16, value: u32) -> Decision
-        ensures { λ r. ⌜ r ≡ decideWrite self supervisor width offset value ⌝ }
-    {
-        let t = target_of(width, offset);
-        let admitted = gate(
+        let d = self.admitted(
             shaped(width, offset) & fits(width, value),
-            in_map(t),
-            self.barred(supervisor, t),
+            supervisor,
+            width,
+            offset,
         );
-        self.tested_if(
-            admitted,
-            permits(admitted),
-            t,
-            first_half(width, value),
-            second_half(value),
-        )
+        tested(d, permits(d), s.unmodelled, s.guarded)
     }
 }

@@ -1,17 +1,22 @@
 // Events, answers and the step: reset, hold, read and write.
 ghost use mathlib.Core.Path.{_≡_};
-ghost use Rattle.qsm.specs.Word.{peek, touch};
-ghost use Rattle.qsm.specs.Event.{answerOf, done, refused, answered, clocks, held, readValue, readDone, readDecided, writeDone, writeDecided, resets, holds, reads, writes, accesses, does, step};
+ghost use Rattle.qsm.specs.Decision.{storedBy};
+ghost use Rattle.qsm.specs.Event.{answerOf, done, refused, answered, clocks, held, afterRead, readValue, readDecided, writeDecided, resets, holds, reads, writes, accesses, does, step};
+use crate::access::Store;
 use crate::decision::Decision;
 use crate::decision::permits;
 use crate::decision::refusal_of;
+use crate::lanes::halves;
+use crate::lanes::lane;
+use crate::lanes::lined;
+use crate::lanes::lower_lane;
+use crate::lanes::touches;
+use crate::lanes::upper_lane;
 use crate::pins::outputs_of;
+use crate::queue::queue_read;
 use crate::request::request_of;
+use crate::serial::serial_read;
 use crate::state::Module;
-use crate::target::Target;
-use crate::target::first_half;
-use crate::target::second_half;
-use crate::target::target_of;
 
 // An access is a read or a write: as supervisor or as user, a width in bytes, an offset from the module's base; and a value to write.
 pub enum Access {
@@ -107,75 +112,51 @@ impl Module {
         self
     }
 
-    // The second word of a long, which is read after the first.
-    fn second_value(self, t: Target) -> u16
-        ensures { λ r. ⌜ r ≡ peek (touch self (t .first) (t .lower)) (t .second) ⌝ }
-    {
-        let first = t.first;
-        let second = t.second;
-        self.touch(first, t.lower).peek(second)
-    }
-
-    // What a permitted read gives: a byte, a word, or two words.
-    fn read_value(self, t: Target, width: u8) -> u32
-        ensures { λ r. ⌜ r ≡ readValue self t width ⌝ }
-    {
-        let first = t.first;
-        let w = self.peek(first) as u32;
-        if width == 1 {
-            if t.upper { w / 256 } else { w % 256 }
-        } else {
-            if t.long {
-                w * 65536 + (self.second_value(t) as u32)
-            } else {
-                w
-            }
-        }
-    }
-
     // What a permitted read leaves.
-    fn read_done(self, t: Target) -> Module
-        ensures { λ r. ⌜ r ≡ readDone self t ⌝ }
+    fn after_read(mut self, width: u8, offset: u16) -> Module
+        ensures { λ r. ⌜ r ≡ afterRead self width offset ⌝ }
     {
-        let first = t.first;
-        let half = self.touch(first, t.lower);
-        if t.long {
-            let second = t.second;
-            half.touch(second, true)
-        } else {
-            half
-        }
+        let sci = self.sci;
+        let qspi = self.qspi;
+        let serial = serial_read(
+            sci,
+            touches(0x0C, 2, width, offset),
+            touches(0x0F, 1, width, offset),
+        );
+        let queue = queue_read(qspi, touches(0x1F, 1, width, offset));
+        self.sci = serial;
+        self.qspi = queue;
+        self
     }
 
-    fn read_decided(self, d: Decision, t: Target, width: u8) -> Done
-        ensures { λ r. ⌜ r ≡ readDecided d self t width ⌝ }
+    // What a permitted read gives.
+    fn read_value(self, width: u8, offset: u16) -> u32
+        ensures { λ r. ⌜ r ≡ readValue self width offset ⌝ }
+    {
+        lane(
+            width,
+            upper_lane(width, offset),
+            self.fetched(offset, halves(width)),
+        )
+    }
+
+    fn read_decided(self, d: Decision, width: u8, offset: u16) -> Done
+        ensures { λ r. ⌜ r ≡ readDecided d self width offset ⌝ }
     {
         if permits(d) {
-            let value = self.read_value(t, width);
-            self.read_done(t).done(0, value)
+            let value = self.read_value(width, offset);
+            self.after_read(width, offset).done(0, value)
         } else {
             self.refused(d)
         }
     }
 
-    // What a permitted write leaves.
-    fn write_done(self, t: Target, v: u16, low: u16) -> Module
-        ensures { λ r. ⌜ r ≡ writeDone self t v low ⌝ }
-    {
-        let half = self.half_written(t, v);
-        if t.long {
-            let second = t.second;
-            half.put(second, low, true, true)
-        } else {
-            half
-        }
-    }
-
-    fn write_decided(self, d: Decision, t: Target, v: u16, low: u16) -> Done
-        ensures { λ r. ⌜ r ≡ writeDecided d self t v low ⌝ }
+    fn write_decided(self, d: Decision, s: Store) -> Done
+        ensures { λ r. ⌜ r ≡ writeDecided d self s ⌝ }
     {
         if permits(d) {
-            self.write_done(t, v, low).done(0, 0)
+            let next = s.state;
+            next.done(0, 0)
         } else {
             self.refused(d)
         }
@@ -191,19 +172,27 @@ impl Module {
         ensures { λ r. ⌜ r ≡ reads self supervisor width offset ⌝ }
     {
         let d = self.decide_read(supervisor, width, offset);
-        self.read_decided(d, target_of(width, offset), width)
+        self.read_decided(d, width, offset)
+    }
+
+    fn stored_by(self, width: u8, offset: u16, value: u32) -> Store
+        ensures { λ r. ⌜ r ≡ storedBy self width offset value ⌝ }
+    {
+        self.stored(
+            offset,
+            halves(width),
+            lined(width, value),
+            upper_lane(width, offset),
+            lower_lane(width, offset),
+        )
     }
 
     fn writes(self, supervisor: bool, width: u8, offset: u16, value: u32) -> Done
         ensures { λ r. ⌜ r ≡ writes self supervisor width offset value ⌝ }
     {
-        let d = self.decide_write(supervisor, width, offset, value);
-        self.write_decided(
-            d,
-            target_of(width, offset),
-            first_half(width, value),
-            second_half(value),
-        )
+        let s = self.stored_by(width, offset, value);
+        let d = self.decide_write(s, supervisor, width, offset, value);
+        self.write_decided(d, s)
     }
 
     fn accesses(self, a: Access) -> Done

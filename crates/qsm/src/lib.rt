@@ -1,7 +1,9 @@
 // The module: the register map, refusals 1 to 4 and privilege, pins and requests, and the step from one event to the next. It uses the
 // two halves by their contracts alone.
+pub mod access;
 pub mod decision;
 pub mod event;
+pub mod lanes;
 pub mod map;
 pub mod own;
 pub mod pins;
@@ -9,5 +11,4 @@ pub mod queue;
 pub mod request;
 pub mod serial;
 pub mod state;
-pub mod target;
 pub mod word;

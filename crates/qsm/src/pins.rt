@@ -1,9 +1,7 @@
-// The eight pins: MISO, MOSI, SCK, PCS0 to PCS3, TXD; which are driven, and at what level.
+// The eight pins as sets, bit k for pin k: MISO, MOSI, SCK, PCS0 to PCS3, TXD; which are driven, and at what level.
 ghost use mathlib.Core.Path.{_≡_};
 ghost use mathlib.Core.Bool.{cond};
-ghost use Prim.Native.Nat.{_%_};
-ghost use Rattle.steps.specs.Bits.{bit};
-ghost use Rattle.qsm.specs.Pins.{outputs, shiftIn, driven, level, shown, mask, levels, portqsRead};
+ghost use Rattle.qsm.specs.Pins.{outputs, without, select, mask, owned, ownLevels, levels, portqsRead};
 use crate::state::Module;
 
 // What the pins depend on: what the two halves put out, and the pin registers.
@@ -38,106 +36,55 @@ pub fn outputs_of(m: Module) -> Outputs
     }
 }
 
-fn bit(k: u8, b: u8) -> bool
-    ensures { λ r. ⌜ r ≡ bit (k % 8) b ⌝ }
+// A set of pins, where it holds; else none.
+fn pins_if(holds: bool, pins: u8) -> u8
+    ensures { λ r. ⌜ r ≡ cond holds pins 0 ⌝ }
 {
-    (b >> (k % 8)) % 2 == 1
+    if holds { pins } else { 0 }
 }
 
-fn pick(first: bool, a: bool, b: bool) -> bool
-    ensures { λ r. ⌜ r ≡ cond first a b ⌝ }
+fn without(a: u8, b: u8) -> u8
+    ensures { λ r. ⌜ r ≡ without a b ⌝ }
 {
-    if first { a } else { b }
+    a - (a & b)
 }
 
-// A byte with one more bit below the others.
-fn shift_in(b: bool, rest: u8) -> u8
-    ensures { λ r. ⌜ r ≡ shiftIn b rest ⌝ }
+// The levels of a where a pin is in the set, of b elsewhere.
+fn select(pins: u8, a: u8, b: u8) -> u8
+    ensures { λ r. ⌜ r ≡ select pins a b ⌝ }
 {
-    if b {
-        rest % 128 * 2 + 1
-    } else {
-        rest % 128 * 2
-    }
+    (a & pins) | without(b, pins)
 }
 
 impl Outputs {
-    // Whether pin k is driven.
-    // Ruled out: an assigned MISO driven with SPE set; SCK left to DDRQS then.
-    pub fn driven(self, k: u8) -> bool
-        ensures { λ r. ⌜ r ≡ driven self k ⌝ }
-    {
-        match k {
-            0 => bit(0, self.ddrqs) & !(self.spe & bit(0, self.pqspar)),
-            2 => self.spe | bit(2, self.ddrqs),
-            7 => self.driving | bit(7, self.ddrqs),
-            _ => bit(k, self.ddrqs),
-        }
-    }
-
-    // The level of pin k where it is driven.
-    // Ruled out: an unassigned PCS as the queue's; TXD at PORTQS's level in a frame.
-    pub fn level(self, k: u8) -> bool
-        ensures { λ r. ⌜ r ≡ level self k ⌝ }
-    {
-        match k {
-            1 => pick(
-                self.spe & bit(1, self.pqspar),
-                self.mosi,
-                bit(1, self.portqs),
-            ),
-            2 => pick(self.spe, self.sck, bit(2, self.portqs)),
-            3 => pick(
-                self.spe & bit(3, self.pqspar),
-                bit(0, self.pcs),
-                bit(3, self.portqs),
-            ),
-            4 => pick(
-                self.spe & bit(4, self.pqspar),
-                bit(1, self.pcs),
-                bit(4, self.portqs),
-            ),
-            5 => pick(
-                self.spe & bit(5, self.pqspar),
-                bit(2, self.pcs),
-                bit(5, self.portqs),
-            ),
-            6 => pick(
-                self.spe & bit(6, self.pqspar),
-                bit(3, self.pcs),
-                bit(6, self.portqs),
-            ),
-            7 => pick(self.driving, self.txd, bit(7, self.portqs)),
-            _ => bit(k, self.portqs),
-        }
-    }
-
-    // The level of a driven pin; of another that of `inputs`.
-    fn shown(self, k: u8, inputs: u8) -> bool
-        ensures { λ r. ⌜ r ≡ shown self inputs k ⌝ }
-    {
-        pick(self.driven(k), self.level(k), bit(k, inputs))
-    }
-
     // The driven pins.
-    // Ruled out: none; all that DDRQS names and no other.
+    // Ruled out: an assigned MISO driven with SPE set; SCK left to DDRQS then.
     pub fn mask(self) -> u8
         ensures { λ r. ⌜ r ≡ mask self ⌝ }
     {
-        let high = shift_in(
-            self.driven(4),
-            shift_in(
-                self.driven(5),
-                shift_in(self.driven(6), shift_in(self.driven(7), 0)),
-            ),
-        );
-        shift_in(
-            self.driven(0),
-            shift_in(
-                self.driven(1),
-                shift_in(self.driven(2), shift_in(self.driven(3), high)),
-            ),
-        )
+        let port = without(self.ddrqs, pins_if(self.spe, self.pqspar & 1));
+        port | pins_if(self.spe, 4) | pins_if(self.driving, 128)
+    }
+
+    // The pins whose level is the queue's or the transmitter's, if they are driven.
+    fn owned(self) -> u8
+        ensures { λ r. ⌜ r ≡ owned self ⌝ }
+    {
+        pins_if(self.spe, (self.pqspar & 122) | 4) | pins_if(self.driving, 128)
+    }
+
+    fn own_levels(self) -> u8
+        ensures { λ r. ⌜ r ≡ ownLevels self ⌝ }
+    {
+        pins_if(self.mosi, 2) | pins_if(self.sck, 4) | self.pcs % 16 * 8 | pins_if(self.txd, 128)
+    }
+
+    // The levels of the driven pins; 0 for the others.
+    // Ruled out: an input shown; an unassigned PCS as the queue's.
+    pub fn levels(self) -> u8
+        ensures { λ r. ⌜ r ≡ levels self ⌝ }
+    {
+        select(self.owned(), self.own_levels(), self.portqs) & self.mask()
     }
 
     // PORTQS as it is read: driven levels, else the last input.
@@ -145,27 +92,6 @@ impl Outputs {
     pub fn portqs_read(self, inputs: u8) -> u8
         ensures { λ r. ⌜ r ≡ portqsRead self inputs ⌝ }
     {
-        let high = shift_in(
-            self.shown(4, inputs),
-            shift_in(
-                self.shown(5, inputs),
-                shift_in(self.shown(6, inputs), shift_in(self.shown(7, inputs), 0)),
-            ),
-        );
-        shift_in(
-            self.shown(0, inputs),
-            shift_in(
-                self.shown(1, inputs),
-                shift_in(self.shown(2, inputs), shift_in(self.shown(3, inputs), high)),
-            ),
-        )
-    }
-
-    // The levels of the driven pins; 0 for the others.
-    // Ruled out: an input shown; the levels turned round.
-    pub fn levels(self) -> u8
-        ensures { λ r. ⌜ r ≡ levels self ⌝ }
-    {
-        self.portqs_read(0)
+        select(self.mask(), self.levels(), inputs)
     }
 }

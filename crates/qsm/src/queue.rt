@@ -1,8 +1,6 @@
-// The words of the queue half: read, read's effect, write, and what a write is refused for.
+// The words of the queue half: read, what a read leaves, write, and what a write is refused for.
 ghost use mathlib.Core.Path.{_≡_};
-ghost use mathlib.Core.Bool.{cond};
-ghost use Rattle.qspi.specs.Registers.{statusRead};
-ghost use Rattle.qsm.specs.Queue.{peekQueue, touchQueue, putQueue, queueUnmodelled, queueGuarded};
+ghost use Rattle.qsm.specs.Queue.{peekQueue, queueRead, putQueue, queueUnmodelled, queueGuarded};
 use crate::map::QueueWord;
 use qspi::Qspi;
 
@@ -21,26 +19,12 @@ pub fn peek_queue(q: Qspi, w: QueueWord) -> u16
     }
 }
 
-fn status_touched(q: Qspi, lower: bool) -> Qspi
-    ensures { λ r. ⌜ r ≡ cond lower (statusRead q) q ⌝ }
+// What a read leaves that touches byte 1F.
+// Ruled out: nothing seen; a read that lets a flag fall.
+pub fn queue_read(q: Qspi, status: bool) -> Qspi
+    ensures { λ r. ⌜ r ≡ queueRead status q ⌝ }
 {
-    if lower { q.status_read() } else { q }
-}
-
-// What a read leaves: byte 1F is seen.
-// Ruled out: byte 1E seen for it; a read that lets a flag fall.
-pub fn touch_queue(q: Qspi, w: QueueWord, lower: bool) -> Qspi
-    ensures { λ r. ⌜ r ≡ touchQueue q w lower ⌝ }
-{
-    match w {
-        QueueWord::Spcr0 => q,
-        QueueWord::Spcr1 => q,
-        QueueWord::Spcr2 => q,
-        QueueWord::Spcr3Spsr => status_touched(q, lower),
-        QueueWord::Receive(_) => q,
-        QueueWord::Transmit(_) => q,
-        QueueWord::Command(_) => q,
-    }
+    if status { q.status_read() } else { q }
 }
 
 // A write of a word's bytes, with no test.

@@ -1,8 +1,8 @@
-// The words of the serial half: read, read's effect, write, and what a write is refused for.
+// The words of the serial half: read, what a read leaves, write, and what a write is refused for.
 ghost use mathlib.Core.Path.{_≡_};
-ghost use Rattle.sci.specs.Serial.{dataRead};
+ghost use Rattle.sci.specs.Serial.{statusRead, dataRead};
 ghost use mathlib.Core.Bool.{cond};
-ghost use Rattle.qsm.specs.Serial.{peekSerial, touchSerial, putSerial, serialUnmodelled, serialGuarded};
+ghost use Rattle.qsm.specs.Serial.{peekSerial, serialRead, putSerial, serialUnmodelled, serialGuarded};
 use crate::map::SerialWord;
 use sci::serial::Sci;
 
@@ -18,23 +18,24 @@ pub fn peek_serial(s: Sci, w: SerialWord) -> u16
     }
 }
 
-fn data_touched(s: Sci, lower: bool) -> Sci
-    ensures { λ r. ⌜ r ≡ cond lower (dataRead s) s ⌝ }
+// What a read leaves that touches SCSR, SCDR's low byte, or both: status, then data.
+// Ruled out: RDRF left set after both; a status read that marks nothing.
+pub fn serial_read(s: Sci, status: bool, low: bool) -> Sci
+    ensures { λ r. ⌜ r ≡ serialRead status low s ⌝ }
 {
-    if lower { s.data_read() } else { s }
+    data_read(status_read(s, status), low)
 }
 
-// What a read leaves: SCSR is seen; SCDR's low byte lets seen flags fall.
-// Ruled out: a data read that leaves RDRF set; a status read that marks nothing.
-pub fn touch_serial(s: Sci, w: SerialWord, lower: bool) -> Sci
-    ensures { λ r. ⌜ r ≡ touchSerial s w lower ⌝ }
+fn status_read(s: Sci, status: bool) -> Sci
+    ensures { λ r. ⌜ r ≡ cond status (statusRead s) s ⌝ }
 {
-    match w {
-        SerialWord::Sccr0 => s,
-        SerialWord::Sccr1 => s,
-        SerialWord::Scsr => s.status_read(),
-        SerialWord::Scdr => data_touched(s, lower),
-    }
+    if status { s.status_read() } else { s }
+}
+
+fn data_read(s: Sci, low: bool) -> Sci
+    ensures { λ r. ⌜ r ≡ cond low (dataRead s) s ⌝ }
+{
+    if low { s.data_read() } else { s }
 }
 
 // A write of a word's bytes, with no test. A write of SCSR does nothing.

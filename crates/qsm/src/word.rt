@@ -1,19 +1,17 @@
 // A word of the map, by the part of the module that has it.
 ghost use mathlib.Core.Path.{_≡_};
 ghost use Rattle.qsm.specs.State.{withSci, withQspi};
-ghost use Rattle.qsm.specs.Word.{peek, touch, put, unmodelled, guarded};
+ghost use Rattle.qsm.specs.Word.{peek, put, unmodelled, guarded};
 use crate::map::Place;
 use crate::own::own_unmodelled;
 use crate::queue::peek_queue;
 use crate::queue::put_queue;
 use crate::queue::queue_guarded;
 use crate::queue::queue_unmodelled;
-use crate::queue::touch_queue;
 use crate::serial::peek_serial;
 use crate::serial::put_serial;
 use crate::serial::serial_guarded;
 use crate::serial::serial_unmodelled;
-use crate::serial::touch_serial;
 use crate::state::Module;
 use qspi::Qspi;
 use sci::serial::Sci;
@@ -45,21 +43,6 @@ impl Module {
             Place::Serial(w) => peek_serial(sci, w),
             Place::Queue(w) => peek_queue(qspi, w),
             Place::Hole => 0,
-        }
-    }
-
-    // What a read leaves; `lower` says whether it touches the lower byte.
-    // Ruled out: a read that leaves every flag; one that changes the other half.
-    pub fn touch(self, p: Place, lower: bool) -> Module
-        ensures { λ r. ⌜ r ≡ touch self p lower ⌝ }
-    {
-        let sci = self.sci;
-        let qspi = self.qspi;
-        match p {
-            Place::Own(_) => self,
-            Place::Serial(w) => self.with_sci(touch_serial(sci, w, lower)),
-            Place::Queue(w) => self.with_qspi(touch_queue(qspi, w, lower)),
-            Place::Hole => self,
         }
     }
 

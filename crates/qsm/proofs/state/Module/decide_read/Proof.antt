@@ -5,15 +5,7 @@ use Rattle.qsm.proofs.state.Module.decide_read.Tie as tie
 
 returns : tie.Need-returns
 unfolding decideRead
-returns c = rw (c .gate .ensures, c .before .barred .ensures, c .before .before .in-map .ensures, c .before .before .before .shaped .ensures, c .before .before .before .before .target-of .ensures)
+returns c = rw (c .admitted .ensures, c .before .shaped .ensures)
 
 pub decide-read-spec : {M : Type 1} → statement M
-decide-read-spec =
-    tie.close
-    (tie.spec
-    (λ c κs. search needs)
-    (λ c κs. search needs)
-    (λ c κs. search needs)
-    (λ c κs. search needs)
-    (λ c κs. search needs)
-    returns)
+decide-read-spec = tie.close (tie.spec (λ c κs. search needs) (λ c κs. search needs) returns)

@@ -5,15 +5,8 @@ use Rattle.qsm.proofs.state.Module.writes.Tie as tie
 
 returns : tie.Need-returns
 unfolding writes
-returns c = rw (c .write-decided .ensures, c .before .second-half .ensures, c .before .before .first-half .ensures, c .before .before .before .target-of .ensures, c .before .before .before .before .decide-write .ensures)
+returns c = rw (c .write-decided .ensures, c .before .decide-write .ensures, c .before .before .stored-by .ensures)
 
 pub writes-spec : {M : Type 1} → statement M
 writes-spec =
-    tie.close
-    (tie.spec
-    (λ c κs. search needs)
-    (λ c κs. search needs)
-    (λ c κs. search needs)
-    (λ c κs. search needs)
-    (λ c κs. search needs)
-    returns)
+    tie.close (tie.spec (λ c κs. search needs) (λ c κs. search needs) (λ c κs. search needs) returns)
