@@ -1,4 +1,5 @@
 pub mod Flags
+pub mod Members
 pub mod Status
 pub mod Control
 pub mod Bits
