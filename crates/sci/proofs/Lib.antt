@@ -1,1 +1,5 @@
 pub mod Membership
+pub mod Flagged
+pub mod Marks
+pub mod Frames
+pub mod Invariant

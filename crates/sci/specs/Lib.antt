@@ -8,3 +8,5 @@ pub mod Receiver
 pub mod Transmitter
 pub mod Serial
 pub mod Marked
+pub mod Line
+pub mod Sound

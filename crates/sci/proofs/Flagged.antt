@@ -1,0 +1,93 @@
+-- What the changes of the status make of one flag k and of its mark.
+use mathlib.Core.Path.{_≡_, refl, ap, sym, _∙_}
+use mathlib.Core.Bool.{Bool, true, false, cond, not, _&&_, _||_, true≢false, false≢true}
+use Prim.Native.Nat.{ℕ, _^_}
+use Rattle.sci.specs.Flags.{flag, common, contains}
+use Rattle.sci.specs.Members.{member, Membership}
+use Rattle.sci.specs.Status.{has, raise, raiseIf, fall, fallIf, markSeen, fallSeen}
+use Rattle.sci.specs.declared.flags.Flags.{Flags}
+use Rattle.sci.specs.declared.status.Status.{Status}
+use Rattle.sci.proofs.Membership.{member-insert, member-without, member-common, contains-flag, membership}
+
+-- Flag k is set; it is marked as seen.
+abbrev pub isSet : ℕ → Status → Bool
+isSet k s = member k (s .flags)
+
+abbrev pub isMarked : ℕ → Status → Bool
+isMarked k s = member k (s .seen)
+
+or-false : (a : Bool) → a ≡ a || false
+or-false true = refl
+or-false false = refl
+
+and-true : (a : Bool) → a ≡ a && true
+and-true true = refl
+and-true false = refl
+
+pub has-flag : (k : ℕ) (s : Status) → has s (flag (2 ^ k)) ≡ isSet k s
+unfolding has
+has-flag k s = contains-flag k (s .flags)
+
+module _ (k : ℕ) where
+  pub set-raise : (s : Status) (f : Flags) → isSet k (raise s f) ≡ isSet k s || member k f
+  unfolding raise
+  set-raise s f = member-insert k (s .flags) f
+
+  pub marked-raise : (s : Status) (f : Flags) → isMarked k (raise s f) ≡ isMarked k s
+  unfolding raise
+  marked-raise s f = refl
+
+  pub set-raiseIf : (b : Bool) (s : Status) (f : Flags) → isSet k (raiseIf b s f) ≡ isSet k s || (b && member k f)
+  unfolding raiseIf
+  set-raiseIf true s f = set-raise s f
+  set-raiseIf false s f = or-false (isSet k s)
+
+  pub marked-raiseIf : (b : Bool) (s : Status) (f : Flags) → isMarked k (raiseIf b s f) ≡ isMarked k s
+  unfolding raiseIf
+  marked-raiseIf true s f = marked-raise s f
+  marked-raiseIf false s f = refl
+
+  pub set-fall : (s : Status) (f : Flags) → isSet k (fall s f) ≡ isSet k s && not (member k f)
+  unfolding fall
+  set-fall s f = member-without k (s .flags) f
+
+  pub marked-fall : (s : Status) (f : Flags) → isMarked k (fall s f) ≡ isMarked k s && not (member k f)
+  unfolding fall
+  marked-fall s f = member-without k (s .seen) f
+
+  pub set-fallIf : (b : Bool) (s : Status) (f : Flags) → isSet k (fallIf b s f) ≡ isSet k s && not (b && member k f)
+  unfolding fallIf
+  set-fallIf true s f = set-fall s f
+  set-fallIf false s f = and-true (isSet k s)
+
+  pub marked-fallIf : (b : Bool) (s : Status) (f : Flags) →
+      isMarked k (fallIf b s f) ≡ isMarked k s && not (b && member k f)
+  unfolding fallIf
+  marked-fallIf true s f = marked-fall s f
+  marked-fallIf false s f = and-true (isMarked k s)
+
+  pub set-markSeen : (s : Status) → isSet k (markSeen s) ≡ isSet k s
+  unfolding markSeen
+  set-markSeen s = refl
+
+  pub marked-markSeen : (s : Status) → isMarked k (markSeen s) ≡ isMarked k s || isSet k s
+  unfolding markSeen
+  marked-markSeen s = member-insert k (s .seen) (s .flags)
+
+  falling : (s : Status) (g : Flags) →
+      member k (common (common (s .flags) (s .seen)) g) ≡ isSet k s && isMarked k s && member k g
+  falling s g =
+      member-common k (common (s .flags) (s .seen)) g
+      ∙ ap (λ b. b && member k g) (member-common k (s .flags) (s .seen))
+
+  pub set-fallSeen : (s : Status) (g : Flags) →
+      isSet k (fallSeen s g) ≡ isSet k s && not (isSet k s && isMarked k s && member k g)
+  unfolding fallSeen
+  set-fallSeen s g =
+      set-fall s (common (common (s .flags) (s .seen)) g) ∙ ap (λ b. isSet k s && not b) (falling s g)
+
+  pub marked-fallSeen : (s : Status) (g : Flags) →
+      isMarked k (fallSeen s g) ≡ isMarked k s && not (isSet k s && isMarked k s && member k g)
+  unfolding fallSeen
+  marked-fallSeen s g =
+      marked-fall s (common (common (s .flags) (s .seen)) g) ∙ ap (λ b. isMarked k s && not b) (falling s g)

@@ -1,0 +1,86 @@
+-- Every change of the status keeps this: a flag that is marked as seen is set.
+use mathlib.Core.Path.{_≡_, refl, ap, sym, _∙_}
+use mathlib.Core.Bool.{Bool, true, false, cond, not, _&&_, _||_, true≢false, false≢true}
+use Prim.Native.Nat.{ℕ}
+use Rattle.sci.specs.Flags.{contains}
+use Rattle.sci.specs.Members.{member, Membership}
+use Rattle.sci.specs.Status.{raise, raiseIf, fall, fallIf, markSeen, fallSeen}
+use Rattle.sci.specs.Receiver.{raised, entered, statusAfter}
+use Rattle.sci.specs.declared.flags.Flags.{Flags}
+use Rattle.sci.specs.declared.status.Status.{Status}
+use Rattle.sci.specs.declared.framer.Frame.{Frame}
+use Rattle.sci.specs.declared.receiver.Outcome.{Outcome}
+use Rattle.sci.proofs.Membership.{membership}
+use Rattle.sci.proofs.Flagged.{isSet, isMarked, set-raise, marked-raise, set-raiseIf, marked-raiseIf, set-fall, marked-fall, set-fallIf, marked-fallIf, set-markSeen, marked-markSeen, set-fallSeen, marked-fallSeen}
+
+abbrev pub Marked : Status → Type 0
+Marked s = contains (s .flags) (s .seen) ≡ true
+
+pub at : (s : Status) → Marked s → (k : ℕ) → isMarked k s ≡ true → isSet k s ≡ true
+at s e = membership (s .flags) (s .seen) .subset .0 e
+
+pub all : (s : Status) → ((k : ℕ) → isMarked k s ≡ true → isSet k s ≡ true) → Marked s
+all s f = membership (s .flags) (s .seen) .subset .1 f
+
+or-keeps : (m s b : Bool) → (m ≡ true → s ≡ true) → m ≡ true → s || b ≡ true
+or-keeps m true b f e = refl
+or-keeps true false b f e = absurd (false≢true (f refl))
+or-keeps false false b f e = absurd (false≢true e)
+
+and-keeps : (m s b : Bool) → (m ≡ true → s ≡ true) → m && b ≡ true → s && b ≡ true
+and-keeps true s b f e = rw (f refl) e
+and-keeps false s b f e = absurd (false≢true e)
+
+mark-keeps : (m s : Bool) → (m ≡ true → s ≡ true) → m || s ≡ true → s ≡ true
+mark-keeps true s f e = f refl
+mark-keeps false s f e = e
+
+pub marked-raiseIf-on : (b : Bool) (s : Status) (f : Flags) → Marked s → Marked (raiseIf b s f)
+marked-raiseIf-on b s f m =
+    all (raiseIf b s f)
+    (λ k e. rw (set-raiseIf k b s f) (or-keeps (isMarked k s) (isSet k s) (b && member k f) (at s m k) (sym (marked-raiseIf k b s f) ∙ e)))
+
+pub marked-raise-on : (s : Status) (f : Flags) → Marked s → Marked (raise s f)
+marked-raise-on s f m =
+    all (raise s f)
+    (λ k e. rw (set-raise k s f) (or-keeps (isMarked k s) (isSet k s) (member k f) (at s m k) (sym (marked-raise k s f) ∙ e)))
+
+pub marked-fallIf-on : (b : Bool) (s : Status) (f : Flags) → Marked s → Marked (fallIf b s f)
+marked-fallIf-on b s f m =
+    all (fallIf b s f)
+    (λ k e. rw (set-fallIf k b s f) (and-keeps (isMarked k s) (isSet k s) (not (b && member k f)) (at s m k) (sym (marked-fallIf k b s f) ∙ e)))
+
+pub marked-fall-on : (s : Status) (f : Flags) → Marked s → Marked (fall s f)
+marked-fall-on s f m =
+    all (fall s f)
+    (λ k e. rw (set-fall k s f) (and-keeps (isMarked k s) (isSet k s) (not (member k f)) (at s m k) (sym (marked-fall k s f) ∙ e)))
+
+pub marked-mark-on : (s : Status) → Marked s → Marked (markSeen s)
+marked-mark-on s m =
+    all (markSeen s)
+    (λ k e. rw (set-markSeen k s) (mark-keeps (isMarked k s) (isSet k s) (at s m k) (sym (marked-markSeen k s) ∙ e)))
+
+pub marked-fallSeen-on : (s : Status) (g : Flags) → Marked s → Marked (fallSeen s g)
+marked-fallSeen-on s g m =
+    all (fallSeen s g)
+    (λ k e.
+      rw (set-fallSeen k s g)
+      (and-keeps (isMarked k s) (isSet k s) (not (isSet k s && isMarked k s && member k g)) (at s m k) (sym (marked-fallSeen k s g) ∙ e)))
+
+marked-raised : (s : Status) (f : Frame) (bad : Bool) → Marked s → Marked (raised s f bad)
+unfolding raised
+marked-raised s f bad m =
+    marked-raiseIf-on bad _ _ (marked-raiseIf-on (not (f .stop)) _ _ (marked-raiseIf-on (f .noise) _ _ (marked-raise-on s _ m)))
+
+marked-entered : (b : Bool) (s : Status) (f : Frame) (bad : Bool) → Marked s → Marked (entered b s f bad)
+unfolding entered
+marked-entered true s f bad m = marked-raised s f bad m
+marked-entered false s f bad m = m
+
+pub marked-after : (s : Status) (o : Outcome) (f : Frame) (bad idles : Bool) → Marked s → Marked (statusAfter s o f bad idles)
+unfolding statusAfter
+marked-after s o f bad idles m =
+    marked-raiseIf-on idles _ _
+    (marked-fallIf-on (o .abandoned || o .reached) _ _
+    (marked-raiseIf-on (o .begun) _ _
+    (marked-entered (o .taken && not (o .lost)) _ f bad (marked-raiseIf-on (o .lost) s _ m))))
