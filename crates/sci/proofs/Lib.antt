@@ -3,3 +3,6 @@ pub mod Flagged
 pub mod Marks
 pub mod Frames
 pub mod Invariant
+pub mod View
+pub mod Settings
+pub mod Likeness

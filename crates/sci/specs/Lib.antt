@@ -10,3 +10,4 @@ pub mod Serial
 pub mod Marked
 pub mod Line
 pub mod Sound
+pub mod Alike
