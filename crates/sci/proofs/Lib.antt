@@ -6,3 +6,5 @@ pub mod Invariant
 pub mod View
 pub mod Settings
 pub mod Likeness
+pub mod Progress
+pub mod Again

@@ -1,8 +1,8 @@
--- Every change of the status keeps this: a flag that is marked as seen is set.
+-- Every change of the status keeps this: a receive flag that is marked as seen is set.
 use mathlib.Core.Path.{_≡_, refl, ap, sym, _∙_}
 use mathlib.Core.Bool.{Bool, true, false, cond, not, _&&_, _||_, true≢false, false≢true}
 use Prim.Native.Nat.{ℕ}
-use Rattle.sci.specs.Flags.{contains}
+use Rattle.sci.specs.Flags.{receiveFlags, contains, common}
 use Rattle.sci.specs.Members.{member, Membership}
 use Rattle.sci.specs.Status.{raise, raiseIf, fall, fallIf, markSeen, fallSeen}
 use Rattle.sci.specs.Receiver.{raised, entered, statusAfter}
@@ -10,17 +10,34 @@ use Rattle.sci.specs.declared.flags.Flags.{Flags}
 use Rattle.sci.specs.declared.status.Status.{Status}
 use Rattle.sci.specs.declared.framer.Frame.{Frame}
 use Rattle.sci.specs.declared.receiver.Outcome.{Outcome}
-use Rattle.sci.proofs.Membership.{membership}
+use Rattle.sci.proofs.Membership.{member-common, membership}
 use Rattle.sci.proofs.Flagged.{isSet, isMarked, set-raise, marked-raise, set-raiseIf, marked-raiseIf, set-fall, marked-fall, set-fallIf, marked-fallIf, set-markSeen, marked-markSeen, set-fallSeen, marked-fallSeen}
 
 abbrev pub Marked : Status → Type 0
-Marked s = contains (s .flags) (s .seen) ≡ true
+Marked s = contains (s .flags) (common (s .seen) receiveFlags) ≡ true
 
-pub at : (s : Status) → Marked s → (k : ℕ) → isMarked k s ≡ true → isSet k s ≡ true
-at s e = membership (s .flags) (s .seen) .subset .0 e
+and-first : (a b : Bool) → a && b ≡ true → a ≡ true
+and-first true b e = refl
+and-first false b e = absurd (false≢true e)
 
-pub all : (s : Status) → ((k : ℕ) → isMarked k s ≡ true → isSet k s ≡ true) → Marked s
-all s f = membership (s .flags) (s .seen) .subset .1 f
+and-second : (a b : Bool) → a && b ≡ true → b ≡ true
+and-second true b e = e
+and-second false b e = absurd (false≢true e)
+
+and-both : (a b : Bool) → a ≡ true → b ≡ true → a && b ≡ true
+and-both a b e f = rw (e, f)
+
+pub at : (s : Status) → Marked s → (k : ℕ) → member k receiveFlags ≡ true → isMarked k s ≡ true → isSet k s ≡ true
+at s e k h m =
+    membership (s .flags) (common (s .seen) receiveFlags) .subset .0 e k
+    (member-common k (s .seen) receiveFlags ∙ and-both (isMarked k s) (member k receiveFlags) m h)
+
+pub all : (s : Status) → ((k : ℕ) → member k receiveFlags ≡ true → isMarked k s ≡ true → isSet k s ≡ true) → Marked s
+all s f =
+    membership (s .flags) (common (s .seen) receiveFlags) .subset .1
+    (λ k e.
+      let m : isMarked k s && member k receiveFlags ≡ true = sym (member-common k (s .seen) receiveFlags) ∙ e in
+      f k (and-second (isMarked k s) (member k receiveFlags) m) (and-first (isMarked k s) (member k receiveFlags) m))
 
 or-keeps : (m s b : Bool) → (m ≡ true → s ≡ true) → m ≡ true → s || b ≡ true
 or-keeps m true b f e = refl
@@ -38,34 +55,34 @@ mark-keeps false s f e = e
 pub marked-raiseIf-on : (b : Bool) (s : Status) (f : Flags) → Marked s → Marked (raiseIf b s f)
 marked-raiseIf-on b s f m =
     all (raiseIf b s f)
-    (λ k e. rw (set-raiseIf k b s f) (or-keeps (isMarked k s) (isSet k s) (b && member k f) (at s m k) (sym (marked-raiseIf k b s f) ∙ e)))
+    (λ k h e. rw (set-raiseIf k b s f) (or-keeps (isMarked k s) (isSet k s) (b && member k f) (at s m k h) (sym (marked-raiseIf k b s f) ∙ e)))
 
 pub marked-raise-on : (s : Status) (f : Flags) → Marked s → Marked (raise s f)
 marked-raise-on s f m =
     all (raise s f)
-    (λ k e. rw (set-raise k s f) (or-keeps (isMarked k s) (isSet k s) (member k f) (at s m k) (sym (marked-raise k s f) ∙ e)))
+    (λ k h e. rw (set-raise k s f) (or-keeps (isMarked k s) (isSet k s) (member k f) (at s m k h) (sym (marked-raise k s f) ∙ e)))
 
 pub marked-fallIf-on : (b : Bool) (s : Status) (f : Flags) → Marked s → Marked (fallIf b s f)
 marked-fallIf-on b s f m =
     all (fallIf b s f)
-    (λ k e. rw (set-fallIf k b s f) (and-keeps (isMarked k s) (isSet k s) (not (b && member k f)) (at s m k) (sym (marked-fallIf k b s f) ∙ e)))
+    (λ k h e. rw (set-fallIf k b s f) (and-keeps (isMarked k s) (isSet k s) (not (b && member k f)) (at s m k h) (sym (marked-fallIf k b s f) ∙ e)))
 
 pub marked-fall-on : (s : Status) (f : Flags) → Marked s → Marked (fall s f)
 marked-fall-on s f m =
     all (fall s f)
-    (λ k e. rw (set-fall k s f) (and-keeps (isMarked k s) (isSet k s) (not (member k f)) (at s m k) (sym (marked-fall k s f) ∙ e)))
+    (λ k h e. rw (set-fall k s f) (and-keeps (isMarked k s) (isSet k s) (not (member k f)) (at s m k h) (sym (marked-fall k s f) ∙ e)))
 
 pub marked-mark-on : (s : Status) → Marked s → Marked (markSeen s)
 marked-mark-on s m =
     all (markSeen s)
-    (λ k e. rw (set-markSeen k s) (mark-keeps (isMarked k s) (isSet k s) (at s m k) (sym (marked-markSeen k s) ∙ e)))
+    (λ k h e. rw (set-markSeen k s) (mark-keeps (isMarked k s) (isSet k s) (at s m k h) (sym (marked-markSeen k s) ∙ e)))
 
 pub marked-fallSeen-on : (s : Status) (g : Flags) → Marked s → Marked (fallSeen s g)
 marked-fallSeen-on s g m =
     all (fallSeen s g)
-    (λ k e.
+    (λ k h e.
       rw (set-fallSeen k s g)
-      (and-keeps (isMarked k s) (isSet k s) (not (isSet k s && isMarked k s && member k g)) (at s m k) (sym (marked-fallSeen k s g) ∙ e)))
+      (and-keeps (isMarked k s) (isSet k s) (not (isSet k s && isMarked k s && member k g)) (at s m k h) (sym (marked-fallSeen k s g) ∙ e)))
 
 marked-raised : (s : Status) (f : Frame) (bad : Bool) → Marked s → Marked (raised s f bad)
 unfolding raised

@@ -11,3 +11,4 @@ pub mod Marked
 pub mod Line
 pub mod Sound
 pub mod Alike
+pub mod Resync

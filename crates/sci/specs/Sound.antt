@@ -2,7 +2,7 @@
 use mathlib.Core.Bool.{Bool, true, false, cond}
 use mathlib.Core.Path.{_≡_}
 use Prim.Native.Nat.{ℕ, suc, _+_, _-_, _*_, _%_, _≤_, _<_}
-use Rattle.sci.specs.Flags.{contains}
+use Rattle.sci.specs.Flags.{receiveFlags, contains, common}
 use Rattle.sci.specs.Control.{frameSamples}
 use Rattle.sci.specs.Framer.{searching}
 use Rattle.sci.specs.declared.status.Status.{Status}
@@ -30,5 +30,5 @@ pub record Sound (n : ℕ) (p : Received) : Type 0 where
   pub top : p .receiver .idle ≤ frameSamples n
   -- The count stands at its limit only with no frame since.
   pub calm : p .receiver .idle ≡ frameSamples n → p .receiver .since ≡ false
-  -- A flag that is marked as seen is set.
-  pub marks : contains (p .status .flags) (p .status .seen) ≡ true
+  -- A receive flag that is marked as seen is set.
+  pub marks : contains (p .status .flags) (common (p .status .seen) receiveFlags) ≡ true
