@@ -39,10 +39,10 @@ pub record Clear (s : Status) : Type 0 where
   pub unset : shown s ≡ noFlag
   pub unseen : common (s .seen) receiveFlags ≡ noFlag
 
-clear-same : (s t : Status) → Clear s → Clear t → Same s t
+pub clear-same : (s t : Status) → Clear s → Clear t → Same s t
 clear-same s t c d = record { flags = c .unset ∙ sym (d .unset); seen = c .unseen ∙ sym (d .unseen) }
 
-same-clear : (s t : Status) → Same s t → Clear s → Clear t
+pub same-clear : (s t : Status) → Same s t → Clear s → Clear t
 same-clear s t e c = record { unset = sym (e .flags) ∙ c .unset; unseen = sym (e .seen) ∙ c .unseen }
 
 nothing : Status
@@ -60,7 +60,7 @@ clear-nothing : Clear nothing
 unfolding nothing
 clear-nothing = record { unset = refl; unseen = refl }
 
-clear-read : (scsr scdr : Bool) (s : Status) → Clear s → Clear (readStatus scsr scdr s)
+pub clear-read : (scsr scdr : Bool) (s : Status) → Clear s → Clear (readStatus scsr scdr s)
 clear-read scsr scdr s c =
     same-clear (readStatus scsr scdr nothing) (readStatus scsr scdr s)
     (same-read scsr scdr nothing s (clear-same nothing s clear-nothing c)) (read-nothing scsr scdr)

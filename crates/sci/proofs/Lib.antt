@@ -8,3 +8,5 @@ pub mod Settings
 pub mod Likeness
 pub mod Progress
 pub mod Again
+pub mod Serve
+pub mod Follow

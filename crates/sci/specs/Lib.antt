@@ -12,3 +12,5 @@ pub mod Line
 pub mod Sound
 pub mod Alike
 pub mod Resync
+pub mod History
+pub mod Demand3

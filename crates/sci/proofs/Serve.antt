@@ -1,0 +1,208 @@
+-- What holds of the serial half after every history, and how its steps reach the receiver.
+use mathlib.Core.Path.{_≡_, refl, ap, sym, subst, _∙_}
+use mathlib.Core.Bool.{Bool, true, false, cond, not, _&&_, _||_, true≢false, false≢true}
+use mathlib.Core.List.{List, [], _∷_, _++_}
+use Prim.Native.Nat.{ℕ, _+_, _*_, _/_, _%_, _^_}
+use native.Mathlib.Omega.{arith}
+use lib.Dec.{eqb}
+use borrow.Author.Tests.{eqb-true}
+use Rattle.steps.specs.Bits.{bit, merge}
+use Rattle.sci.specs.Flags.{flag, RAF, receiveFlags, transmitFlags, contains, common}
+use Rattle.sci.specs.Status.{fall, fallSeen}
+use Rattle.sci.specs.Control.{TE, RE, RWU, M, bitsOf, settings, sccr0Bits, sccr1Bits}
+use Rattle.sci.specs.Receiver.{startState, received}
+use Rattle.sci.specs.Transmitter.{runs, sent}
+use Rattle.sci.specs.Line.{Op, sample, read, act, acts, readStatus}
+use Rattle.sci.specs.Sound.{Sound}
+use Rattle.sci.specs.Alike.{Same, Alike}
+use Rattle.sci.specs.Serial.{resetSci, active, due, heard, afterSent, sampled, counted, prescaled, clocked, sccr1Word, withStatus, dataWritten, wroteSccr0, sccr0Set, stopped, withSleep, withSccr1, wroteSccr1, sccr0Guarded, sccr1Guarded}
+use Rattle.sci.specs.History.{Step, reset, clock, reads, writesSccr0, writesSccr1, writesScdr, step, run, receiving, sampling, stepOps, ops, breaks, Unbroken}
+use Rattle.sci.specs.declared.status.Status.{Status}
+use Rattle.sci.specs.declared.receiver.Receiver.{Receiver}
+use Rattle.sci.specs.declared.receiver.Received.{Received}
+use Rattle.sci.specs.declared.serial.Sci.{Sci}
+use Rattle.sci.proofs.Flagged.{isSet, isMarked}
+use Rattle.sci.proofs.Marks.{Marked, at, all, marked-fall-on}
+use Rattle.sci.proofs.View.{Receives, set-at, marked-at, same-sym, same-sent, same-loaded}
+use Rattle.sci.proofs.Settings.{same-bits}
+use Rattle.sci.proofs.Frames.{by-cond}
+use Rattle.sci.proofs.Likeness.{alike-refl, alike-sym, alike-trans, alike-status, alike-act}
+use Rattle.sci.proofs.Invariant.{sound-act, sound-status, sound-start}
+
+-- One clock, by whether the half is active, a sample is due, and the receiver is on.
+abbrev pub turned : Bool → Bool → Bool → Sci → Bool → Sci
+turned true true on s x = heard on (afterSent s (sent (s .transmitter) (s .status) (s .sccr1))) x
+turned true false on s x = counted s
+turned false due on s x = s
+
+pub clock-turned : (s : Sci) (x : Bool) → clocked s x ≡ turned (active s) (due s) (RE (s .sccr1)) s x
+unfolding clocked sampled
+clock-turned s x = go (active s) (due s)
+  where
+    go : (a d : Bool) → cond a (prescaled d s x) s ≡ turned a d (RE (s .sccr1)) s x
+    go true true = refl
+    go true false = refl
+    go false true = refl
+    go false false = refl
+
+same-marked : (s t : Status) → Same s t → Marked s → Marked t
+same-marked s t e m =
+    all t (λ k h g. sym (set-at s t e k h) ∙ at s m k h (marked-at s t e k h ∙ g))
+
+-- After every history: the receiver is sound, and with RE clear it is in its start state.
+pub record Kept (s : Sci) : Type 0 where
+  pub sound : Sound (bitsOf (M (s .sccr1))) (receiving s)
+  pub off : RE (s .sccr1) ≡ false → s .receiver ≡ startState (s .receiver)
+
+kept-reset : Kept resetSci
+kept-reset =
+    record { sound = sound-start 8 (resetSci .receiver) (resetSci .status) refl; off = λ e. refl }
+
+-- A change of the status alone.
+kept-status : (s : Sci) (t : Status) → Kept s → Marked t → Kept (withStatus s t)
+kept-status s t k m =
+    record { sound = sound-status (bitsOf (M (s .sccr1))) (receiving s) t (k .sound) m; off = k .off }
+
+kept-turned : (a d on : Bool) (s : Sci) (x : Bool) → RE (s .sccr1) ≡ on → Kept s → Kept (turned a d on s x)
+unfolding act
+kept-turned true true true s x e k =
+    let t : Status = sent (s .transmitter) (s .status) (s .sccr1) .status in
+    let m : Marked t = same-marked (s .status) t (same-sent (s .transmitter) (s .status) (s .sccr1)) (k .sound .marks) in
+    record {
+      sound =
+        sound-act (s .sccr1) (sample x) (record { receiver = s .receiver; status = t })
+        (sound-status (bitsOf (M (s .sccr1))) (receiving s) t (k .sound) m);
+      off = λ h. absurd (true≢false (sym e ∙ h))
+    }
+kept-turned true true false s x e k =
+    let t : Status = sent (s .transmitter) (s .status) (s .sccr1) .status in
+    let m : Marked t = same-marked (s .status) t (same-sent (s .transmitter) (s .status) (s .sccr1)) (k .sound .marks) in
+    record { sound = sound-status (bitsOf (M (s .sccr1))) (receiving s) t (k .sound) m; off = k .off }
+kept-turned true false on s x e k = record { sound = k .sound; off = k .off }
+kept-turned false d on s x e k = k
+
+kept-read : (scsr scdr : Bool) (s : Sci) → Kept s → Kept (withStatus s (readStatus scsr scdr (s .status)))
+unfolding act
+kept-read scsr scdr s k =
+    kept-status s (readStatus scsr scdr (s .status)) k (sound-act (s .sccr1) (read scsr scdr) (receiving s) (k .sound) .marks)
+
+kept-sccr0 : (s : Sci) (v : ℕ) (upper lower : Bool) → Kept s → Kept (wroteSccr0 s v upper lower)
+unfolding wroteSccr0
+kept-sccr0 s v upper lower k =
+    by-cond Kept (eqb (sccr0Bits (merge (s .sccr0) v upper lower)) (s .sccr0)) (λ e. k)
+    (λ e. record { sound = k .sound; off = k .off })
+
+kept-scdr : (lower : Bool) (s : Sci) (v : ℕ) (upper : Bool) → Kept s → Kept (dataWritten lower s v upper)
+kept-scdr true s v upper k =
+    record {
+      sound =
+        sound-status (bitsOf (M (s .sccr1))) (receiving s) (fallSeen (s .status) transmitFlags) (k .sound)
+        (same-marked (s .status) (fallSeen (s .status) transmitFlags) (same-loaded (s .status)) (k .sound .marks));
+      off = k .off
+    }
+kept-scdr false s v upper k = k
+
+-- A write of SCCR1 puts the bits 12:8 that the guard tests.
+fours : (z : ℕ) → z / 4 * 4 / 256 ≡ z / 256
+fours z =
+    let e : z / 256 ≡ z / 4 / 64 = omega arith in
+    let f : z / 4 * 4 / 256 ≡ z / 4 / 64 = omega arith in
+    f ∙ sym e
+
+settings-bits : (w : ℕ) → settings (sccr1Bits w) ≡ settings w
+settings-bits w = rw (fours (w % 2 ^ 13)) (omega arith)
+
+settings-asleep : (w : ℕ) → settings (sccr1Bits w + 2) ≡ settings w
+settings-asleep w =
+    let e : (sccr1Bits w + 2) / 256 ≡ sccr1Bits w / 256 = omega arith in
+    rw (e) (settings-bits w)
+
+settings-merge : (a v : ℕ) (upper lower : Bool) → settings (merge a v upper lower) ≡ cond upper (settings v) (settings a)
+settings-merge a v true true = omega arith
+settings-merge a v true false = omega arith
+settings-merge a v false true = omega arith
+settings-merge a v false false = omega arith
+
+settings-word : (c : ℕ) (asleep : Bool) → settings (cond asleep (sccr1Bits c + 2) (sccr1Bits c)) ≡ settings c
+settings-word c true = settings-asleep c
+settings-word c false = settings-bits c
+
+settings-put : (c v : ℕ) (asleep upper lower : Bool) →
+    settings (sccr1Bits (merge (cond asleep (sccr1Bits c + 2) (sccr1Bits c)) v upper lower)) ≡ settings (merge c v upper lower)
+settings-put c v asleep upper lower =
+    settings-bits (merge (cond asleep (sccr1Bits c + 2) (sccr1Bits c)) v upper lower)
+    ∙ settings-merge (cond asleep (sccr1Bits c + 2) (sccr1Bits c)) v upper lower
+    ∙ ap (cond upper (settings v)) (settings-word c asleep)
+    ∙ sym (settings-merge c v upper lower)
+
+re-put : (w : ℕ) → RE (sccr1Bits w) ≡ RE w
+re-put w = let h : sccr1Bits w / 2 ^ 2 % 2 ≡ w / 2 ^ 2 % 2 = omega arith in ap (λ d. eqb d 1) h
+
+not-guarded : (te re ru q : Bool) → (te || re || ru) && not q ≡ false → re ≡ true → q ≡ true
+not-guarded te re ru true e h = refl
+not-guarded true re ru false e h = absurd (true≢false e)
+not-guarded false true ru false e h = absurd (true≢false e)
+not-guarded false false ru false e h = absurd (false≢true h)
+
+-- With RE set the settings stand.
+pub settings-stand : (s : Sci) (v : ℕ) (upper lower : Bool) → sccr1Guarded s v upper lower ≡ false → RE (s .sccr1) ≡ true →
+    settings (sccr1Bits (merge (sccr1Word s) v upper lower)) ≡ settings (s .sccr1)
+unfolding sccr1Guarded
+settings-stand s v upper lower e h =
+    settings-put (s .sccr1) v (s .receiver .asleep) upper lower
+    ∙ eqb-true (settings (merge (s .sccr1) v upper lower)) (settings (s .sccr1))
+      (not-guarded (TE (s .sccr1)) (RE (s .sccr1)) (runs (s .transmitter)) _ e h)
+
+sound-sleep : (n : ℕ) (p : Received) (asleep : Bool) → Sound n p →
+    Sound n (record { receiver = withSleep (p .receiver) asleep; status = p .status })
+sound-sleep n p asleep i = record { fits = i .fits; low = i .low; top = i .top; calm = i .calm; marks = i .marks }
+
+module _ (s : Sci) (w : ℕ) (k : Kept s) (stand : RE (s .sccr1) ≡ true → settings (sccr1Bits w) ≡ settings (s .sccr1)) where
+  sound-put : (on : Bool) → RE (s .sccr1) ≡ on → Sound (bitsOf (M (sccr1Bits w))) (receiving (withSccr1 s w))
+  sound-put true e =
+      subst (λ (n : ℕ). Sound n (receiving (withSccr1 s w))) (sym (same-bits (sccr1Bits w) (s .sccr1) (stand e)))
+      (sound-sleep (bitsOf (M (s .sccr1))) (receiving s) (RWU w) (k .sound))
+  sound-put false e =
+      subst
+      (λ (r : Receiver). Sound (bitsOf (M (sccr1Bits w))) (record { receiver = withSleep r (RWU w); status = s .status }))
+      (sym (k .off e)) (sound-start (bitsOf (M (sccr1Bits w))) (withSleep (s .receiver) (RWU w)) (s .status) (k .sound .marks))
+
+  kept-put : (on : Bool) → RE w ≡ on → Kept (stopped on (withSccr1 s w))
+  kept-put true e =
+      record {
+        sound = sound-put (RE (s .sccr1)) refl;
+        off = λ h. absurd (true≢false (sym e ∙ sym (re-put w) ∙ h))
+      }
+  kept-put false e =
+      record {
+        sound =
+          sound-start (bitsOf (M (sccr1Bits w))) (withSleep (s .receiver) (RWU w)) (fall (s .status) RAF)
+          (marked-fall-on (s .status) RAF (k .sound .marks));
+        off = λ h. refl
+      }
+
+kept-sccr1 : (s : Sci) (v : ℕ) (upper lower : Bool) → sccr1Guarded s v upper lower ≡ false → Kept s →
+    Kept (wroteSccr1 s v upper lower)
+unfolding wroteSccr1
+kept-sccr1 s v upper lower e k =
+    let w : ℕ = merge (sccr1Word s) v upper lower in
+    kept-put s w k (settings-stand s v upper lower e) (RE w) refl
+
+pub kept-step : (e : Step) (s : Sci) → Kept s → Kept (step e s)
+unfolding step
+kept-step reset s k = kept-reset
+kept-step (clock x) s k = rw (clock-turned s x) (kept-turned (active s) (due s) (RE (s .sccr1)) s x refl k)
+kept-step (reads scsr scdr) s k = kept-read scsr scdr s k
+kept-step (writesSccr0 v upper lower) s k =
+    by-cond Kept (sccr0Guarded s v upper lower) (λ e. k) (λ e. kept-sccr0 s v upper lower k)
+kept-step (writesSccr1 v upper lower) s k =
+    by-cond Kept (sccr1Guarded s v upper lower) (λ e. k) (λ e. kept-sccr1 s v upper lower e k)
+kept-step (writesScdr v upper lower) s k = kept-scdr lower s v upper k
+
+pub kept-run : (es : List Step) (s : Sci) → Kept s → Kept (run es s)
+unfolding run
+kept-run [] s k = k
+kept-run (e ∷ es) s k = kept-run es (step e s) (kept-step e s k)
+
+pub kept-history : (es : List Step) → Kept (run es resetSci)
+kept-history es = kept-run es resetSci kept-reset
