@@ -10,3 +10,4 @@ pub mod Progress
 pub mod Again
 pub mod Serve
 pub mod Follow
+pub mod Recovery

@@ -135,7 +135,7 @@ settings-put c v asleep upper lower =
     ∙ ap (cond upper (settings v)) (settings-word c asleep)
     ∙ sym (settings-merge c v upper lower)
 
-re-put : (w : ℕ) → RE (sccr1Bits w) ≡ RE w
+pub re-put : (w : ℕ) → RE (sccr1Bits w) ≡ RE w
 re-put w = let h : sccr1Bits w / 2 ^ 2 % 2 ≡ w / 2 ^ 2 % 2 = omega arith in ap (λ d. eqb d 1) h
 
 not-guarded : (te re ru q : Bool) → (te || re || ru) && not q ≡ false → re ≡ true → q ≡ true
