@@ -11,3 +11,5 @@ pub mod Again
 pub mod Serve
 pub mod Follow
 pub mod Recovery
+pub mod Marking
+pub mod Losses

@@ -56,7 +56,7 @@ pub alike-status : (r : Receiver) (s t : Status) → Same s t →
 alike-status r s t e = record { lines = refl; same = e; words = λ h. refl }
 
 -- A flag that no frame raises.
-set-raise-other : (k : ℕ) (b : Bool) (s : Status) (f : Flags) → member k f ≡ false → isSet k (raiseIf b s f) ≡ isSet k s
+pub set-raise-other : (k : ℕ) (b : Bool) (s : Status) (f : Flags) → member k f ≡ false → isSet k (raiseIf b s f) ≡ isSet k s
 set-raise-other k b s f e = rw (set-raiseIf k b s f, e) (go (isSet k s) b)
   where
     go : (a b : Bool) → a || (b && false) ≡ a
@@ -64,7 +64,7 @@ set-raise-other k b s f e = rw (set-raiseIf k b s f, e) (go (isSet k s) b)
     go false true = refl
     go false false = refl
 
-set-fall-other : (k : ℕ) (b : Bool) (s : Status) (f : Flags) → member k f ≡ false → isSet k (fallIf b s f) ≡ isSet k s
+pub set-fall-other : (k : ℕ) (b : Bool) (s : Status) (f : Flags) → member k f ≡ false → isSet k (fallIf b s f) ≡ isSet k s
 set-fall-other k b s f e = rw (set-fallIf k b s f, e) (go (isSet k s) b)
   where
     go : (a b : Bool) → a && not (b && false) ≡ a

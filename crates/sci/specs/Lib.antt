@@ -14,3 +14,4 @@ pub mod Alike
 pub mod Resync
 pub mod History
 pub mod Demand3
+pub mod Overrun
