@@ -13,3 +13,4 @@ pub mod Follow
 pub mod Recovery
 pub mod Marking
 pub mod Losses
+pub mod Meeting

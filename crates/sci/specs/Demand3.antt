@@ -1,4 +1,4 @@
--- Demand 3, first half, of the serial half: every history from reset on.
+-- Demand 3 of the serial half, whole: every history from reset on.
 use mathlib.Core.Bool.{Bool, true, false}
 use mathlib.Core.List.{List, [], _∷_}
 use mathlib.Core.Path.{_≡_}
@@ -7,6 +7,7 @@ use Rattle.sci.specs.Control.{RE, settings}
 use Rattle.sci.specs.Line.{shown, noFlag, Ones, samplesIn, resyncSamples}
 use Rattle.sci.specs.Serial.{resetSci}
 use Rattle.sci.specs.History.{Step, reads, step, run, ops, watched, Unbroken}
+use Rattle.sci.specs.Overrun.{log, Overrun}
 use Rattle.sci.specs.declared.serial.Sci.{Sci}
 
 -- `before` leaves the receiver on and not asleep. Then, with no reset or counted write, come ones enough and, still on ones, a read that
@@ -45,3 +46,7 @@ Recovered =
     let y : Sci = run waited c in
     settings (m .sccr1) ≡ settings (c .sccr1) →
     Unbroken later z → Unbroken later′ y → ops later z ≡ ops later′ y → watched later z ≡ watched later′ y
+
+pub record Demand3 : Type 0 where
+  pub recovered : Recovered
+  pub overrun : (es : List Step) → Overrun (log es resetSci)

@@ -15,3 +15,4 @@ pub mod Resync
 pub mod History
 pub mod Demand3
 pub mod Overrun
+pub mod Witness
