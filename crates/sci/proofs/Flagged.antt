@@ -1,13 +1,13 @@
 -- What the changes of the status make of one flag k and of its mark.
-use mathlib.Core.Path.{_≡_, refl, ap, sym, _∙_}
-use mathlib.Core.Bool.{Bool, true, false, cond, not, _&&_, _||_, true≢false, false≢true}
+use mathlib.Core.Path.{_≡_, refl, ap, _∙_}
+use mathlib.Core.Bool.{Bool, true, false, not, _&&_, _||_}
 use Prim.Native.Nat.{ℕ, _^_}
-use Rattle.sci.specs.Flags.{flag, common, contains}
-use Rattle.sci.specs.Members.{member, Membership}
+use Rattle.sci.specs.Flags.{flag, common}
+use Rattle.sci.specs.Members.{member}
 use Rattle.sci.specs.Status.{has, raise, raiseIf, fall, fallIf, markSeen, fallSeen}
 use Rattle.sci.specs.declared.flags.Flags.{Flags}
 use Rattle.sci.specs.declared.status.Status.{Status}
-use Rattle.sci.proofs.Membership.{member-insert, member-without, member-common, contains-flag, membership}
+use Rattle.sci.proofs.Membership.{member-insert, member-without, member-common, contains-flag}
 
 -- Flag k is set; it is marked as seen.
 abbrev pub isSet : ℕ → Status → Bool

@@ -1,25 +1,23 @@
 -- Between resets and counted writes the serial half's receiver follows the samples and reads that reach it, up to likeness.
-use mathlib.Core.Path.{_≡_, refl, ap, sym, subst, _∙_}
-use mathlib.Core.Bool.{Bool, true, false, cond, not, _&&_, _||_, true≢false, false≢true}
+use mathlib.Core.Path.{_≡_, refl, ap, subst, _∙_}
+use mathlib.Core.Bool.{Bool, true, false, cond, not, _&&_, true≢false}
 use mathlib.Core.List.{List, [], _∷_, _++_}
 use mathlib.Core.Option.{none}
 use Prim.Native.Nat.{ℕ}
-use borrow.Author.Tests.{not-false}
 use Rattle.sci.specs.Flags.{transmitFlags}
 use Rattle.sci.specs.Status.{fallSeen}
 use Rattle.sci.specs.Control.{RE}
-use Rattle.sci.specs.Receiver.{received}
 use Rattle.sci.specs.Transmitter.{sent}
-use Rattle.sci.specs.Line.{Op, sample, read, act, acts, readStatus, delivers, shown, Seen, seenAt, watch}
+use Rattle.sci.specs.Line.{Op, sample, act, acts, readStatus, delivers, shown, watch}
 use Rattle.sci.specs.Alike.{Alike}
 use Rattle.sci.specs.Serial.{active, due, clocked, dataWritten, wroteSccr0, wroteSccr1, sccr0Guarded, sccr1Guarded}
 use Rattle.sci.specs.History.{Step, reset, clock, reads, writesSccr0, writesSccr1, writesScdr, step, run, receiving, sampling, stepOps, ops, seenIf, stepSeen, watched, breaks, Unbroken}
 use Rattle.sci.specs.declared.status.Status.{Status}
 use Rattle.sci.specs.declared.receiver.Received.{Received}
 use Rattle.sci.specs.declared.serial.Sci.{Sci}
-use Rattle.sci.proofs.View.{same-sym, same-sent, same-loaded}
-use Rattle.sci.proofs.Likeness.{alike-refl, alike-sym, alike-trans, alike-status, alike-act, alike-acts, alike-watch}
-use Rattle.sci.proofs.Serve.{turned, clock-turned}
+use Rattle.sci.proofs.Same.{same-sym, same-sent, same-loaded}
+use Rattle.sci.proofs.Alike.{alike-refl, alike-trans, alike-status, alike-act, alike-acts, alike-watch}
+use Rattle.sci.proofs.Reachable.{turned, clock-turned}
 
 sccr1-turned : (a d on : Bool) (s : Sci) (x : Bool) → turned a d on s x .sccr1 ≡ s .sccr1
 sccr1-turned true true true s x = refl

@@ -1,12 +1,12 @@
 -- One sample of the framer: RT stays within its bit, and a frame comes one sample nearer to its end.
-use mathlib.Core.Path.{_≡_, refl, ap, sym, _∙_}
+use mathlib.Core.Path.{_≡_, refl}
 use mathlib.Core.Bool.{Bool, true, false, cond, not, _&&_, _||_, true≢false, false≢true}
-use Prim.Native.Nat.{ℕ, zero, suc, _+_, _-_, _*_, _/_, _%_, _≤_, _<_}
+use Prim.Native.Nat.{ℕ, suc, _+_, _-_, _*_, _%_, _≤_, _<_}
 use native.Mathlib.Omega.{arith}
-use lib.Dec.{eqb, leb}
+use lib.Dec.{eqb}
 use borrow.Author.Tests.{eqb-true, eqb-false}
-use Rattle.sci.specs.Bits.{vote, disagree}
-use Rattle.sci.specs.Framer.{searching, begun, begins, ends, searched, judged, startBit, dataBit, stopBit, inBit, nextRt, framed}
+use Rattle.sci.specs.Bits.{vote}
+use Rattle.sci.specs.Framer.{searching, ends, searched, judged, startBit, dataBit, stopBit, inBit, framed}
 use Rattle.sci.specs.Sound.{span, togo, Fits}
 use Rattle.sci.specs.declared.framer.Framer.{Framer}
 
@@ -30,7 +30,7 @@ at framing starting left rt first second noise shift =
       first = first;
       second = second;
       noise = noise;
-      shift = shift
+      shift = shift;
     }
 
 fits-searching : (n : ℕ) → Fits n searching
@@ -59,7 +59,7 @@ module _ (n rt : ℕ) (first second noise : Bool) (shift : ℕ) (x : Bool) (g : 
       record {
         fits = fits-early n (rt % 16 + 1) first′ second′ noise′ shift (omega arith) (omega arith);
         onward = λ k z. omega arith;
-        over = λ k. absurd (false≢true k)
+        over = λ k. absurd (false≢true k);
       }
 
   start-judged : (b one : Bool) → rt % 16 + 1 ≡ 7 → Moved n start x (judged b start one)
@@ -69,7 +69,7 @@ module _ (n rt : ℕ) (first second noise : Bool) (shift : ℕ) (x : Bool) (g : 
       record {
         fits = fits-early n 7 first second (noise || one) shift (omega arith) (omega arith);
         onward = λ k z. omega arith;
-        over = λ k. absurd (false≢true k)
+        over = λ k. absurd (false≢true k);
       }
 
   start-over : rt % 16 + 1 ≡ 16 → Moved n start x (at true false n (rt % 16 + 1) first second noise shift)
@@ -77,7 +77,7 @@ module _ (n rt : ℕ) (first second noise : Bool) (shift : ℕ) (x : Bool) (g : 
       record {
         fits = fits-late n n (rt % 16 + 1) first second noise shift (omega arith) (omega arith);
         onward = λ k z. omega arith;
-        over = λ k. absurd (false≢true k)
+        over = λ k. absurd (false≢true k);
       }
 
   start-moved : Moved n start x (startBit start (rt % 16 + 1) x)
@@ -86,12 +86,12 @@ module _ (n rt : ℕ) (first second noise : Bool) (shift : ℕ) (x : Bool) (g : 
       by-cond (Moved n start x) (eqb (rt % 16 + 1) 3)
       (λ e. start-on x second noise (omega (arith, eqb-true (rt % 16 + 1) 3 e)))
       (λ e₁. by-cond (Moved n start x) (eqb (rt % 16 + 1) 5)
-        (λ e. start-on first x noise (omega (arith, eqb-true (rt % 16 + 1) 5 e)))
-        (λ e₂. by-cond (Moved n start x) (eqb (rt % 16 + 1) 7)
-          (λ e. start-judged (vote first second x) (first || second || x) (eqb-true _ _ e))
-          (λ e₃. by-cond (Moved n start x) (eqb (rt % 16 + 1) 16)
-            (λ e. start-over (eqb-true _ _ e))
-            (λ e. start-on first second _ (eqb-false _ _ e)))))
+      (λ e. start-on first x noise (omega (arith, eqb-true (rt % 16 + 1) 5 e)))
+      (λ e₂. by-cond (Moved n start x) (eqb (rt % 16 + 1) 7)
+      (λ e. start-judged (vote first second x) (first || second || x) (eqb-true _ _ e))
+      (λ e₃. by-cond (Moved n start x) (eqb (rt % 16 + 1) 16)
+      (λ e. start-over (eqb-true _ _ e))
+      (λ e. start-on first second _ (eqb-false _ _ e)))))
 
 module _ (n left rt : ℕ) (first second noise : Bool) (shift : ℕ) (x : Bool) (h : left ≤ n) where
   abbrev late : Framer
@@ -104,7 +104,7 @@ module _ (n left rt : ℕ) (first second noise : Bool) (shift : ℕ) (x : Bool) 
       record {
         fits = fits-late n left (rt % 16 + 1) first′ second′ noise′ shift′ (omega arith) h;
         onward = λ e z. omega arith;
-        over = λ e. not-over (eqb left 0) (eqb rt 9) e (eqb-true left 0) (eqb-true rt 9)
+        over = λ e. not-over (eqb left 0) (eqb rt 9) e (eqb-true left 0) (eqb-true rt 9);
       }
     where
       not-over : (a b : Bool) → a && b ≡ true → (a ≡ true → left ≡ 0) → (b ≡ true → rt ≡ 9) →
@@ -120,7 +120,7 @@ module _ (n left rt : ℕ) (first second noise : Bool) (shift : ℕ) (x : Bool) 
       record {
         fits = fits-late n (left - 1) (rt % 16 + 1) first second noise shift (omega arith) (omega arith);
         onward = λ e z. omega arith;
-        over = λ e. absurd (not-over (eqb left 0) (eqb rt 9) e (eqb-true left 0))
+        over = λ e. absurd (not-over (eqb left 0) (eqb rt 9) e (eqb-true left 0));
       }
     where
       not-over : (a b : Bool) → a && b ≡ true → (a ≡ true → left ≡ 0) → ⊥
@@ -133,19 +133,19 @@ module _ (n left rt : ℕ) (first second noise : Bool) (shift : ℕ) (x : Bool) 
       by-cond (Moved n late x) (eqb (rt % 16 + 1) 8)
       (λ e. late-on x second noise shift (omega (arith, eqb-true (rt % 16 + 1) 8 e)) (omega (arith, eqb-true (rt % 16 + 1) 8 e)))
       (λ e₁. by-cond (Moved n late x) (eqb (rt % 16 + 1) 9)
-        (λ e. late-on first x noise shift (omega (arith, eqb-true (rt % 16 + 1) 9 e)) (omega (arith, eqb-true (rt % 16 + 1) 9 e)))
-        (λ e₂. by-cond (Moved n late x) (eqb (rt % 16 + 1) 10)
-          (λ e. late-on first second _ _ (omega (arith, eqb-true (rt % 16 + 1) 10 e)) (omega (arith, eqb-true (rt % 16 + 1) 10 e)))
-          (λ e₃. by-cond (Moved n late x) (eqb (rt % 16 + 1) 16)
-            (λ e. data-over g (eqb-true (rt % 16 + 1) 16 e))
-            (λ e. late-on first second noise shift (omega (arith, eqb-false (rt % 16 + 1) 16 e)) (omega (arith, eqb-false (rt % 16 + 1) 16 e))))))
+      (λ e. late-on first x noise shift (omega (arith, eqb-true (rt % 16 + 1) 9 e)) (omega (arith, eqb-true (rt % 16 + 1) 9 e)))
+      (λ e₂. by-cond (Moved n late x) (eqb (rt % 16 + 1) 10)
+      (λ e. late-on first second _ _ (omega (arith, eqb-true (rt % 16 + 1) 10 e)) (omega (arith, eqb-true (rt % 16 + 1) 10 e)))
+      (λ e₃. by-cond (Moved n late x) (eqb (rt % 16 + 1) 16)
+      (λ e. data-over g (eqb-true (rt % 16 + 1) 16 e))
+      (λ e. late-on first second noise shift (omega (arith, eqb-false (rt % 16 + 1) 16 e)) (omega (arith, eqb-false (rt % 16 + 1) 16 e))))))
 
   stop-over : left ≡ 0 → rt % 16 + 1 ≡ 10 → Moved n late x searching
   stop-over z k =
       record {
         fits = fits-searching n;
         onward = λ e y. absurd (omega arith);
-        over = λ e. (omega arith, omega arith)
+        over = λ e. (omega arith, omega arith);
       }
 
   stop-moved : left ≡ 0 → rt % 16 < 10 → Moved n late x (stopBit late (rt % 16 + 1) x)
@@ -154,10 +154,10 @@ module _ (n left rt : ℕ) (first second noise : Bool) (shift : ℕ) (x : Bool) 
       by-cond (Moved n late x) (eqb (rt % 16 + 1) 8)
       (λ e. late-on x second noise shift (omega (arith, eqb-true (rt % 16 + 1) 8 e)) (omega (arith, eqb-true (rt % 16 + 1) 8 e)))
       (λ e₁. by-cond (Moved n late x) (eqb (rt % 16 + 1) 9)
-        (λ e. late-on first x noise shift (omega (arith, eqb-true (rt % 16 + 1) 9 e)) (omega (arith, eqb-true (rt % 16 + 1) 9 e)))
-        (λ e₂. by-cond (Moved n late x) (eqb (rt % 16 + 1) 10)
-          (λ e. stop-over z (eqb-true (rt % 16 + 1) 10 e))
-          (λ e. late-on first second noise shift (omega arith) (omega (arith, eqb-false (rt % 16 + 1) 10 e)))))
+      (λ e. late-on first x noise shift (omega (arith, eqb-true (rt % 16 + 1) 9 e)) (omega (arith, eqb-true (rt % 16 + 1) 9 e)))
+      (λ e₂. by-cond (Moved n late x) (eqb (rt % 16 + 1) 10)
+      (λ e. stop-over z (eqb-true (rt % 16 + 1) 10 e))
+      (λ e. late-on first second noise shift (omega arith) (omega (arith, eqb-false (rt % 16 + 1) 10 e)))))
 
   late-moved : (stopping : Bool) → eqb left 0 ≡ stopping → rt % 16 < 16 * left + 10 →
       Moved n late x (inBit false stopping n late (rt % 16 + 1) x)
@@ -170,19 +170,19 @@ search-moved n true false f e i =
     record {
       fits = fits-early n 1 false false false 0 (omega arith) (omega arith);
       onward = λ k z. absurd (false≢true k);
-      over = λ k. absurd (false≢true (rw e at k))
+      over = λ k. absurd (false≢true (rw e at k));
     }
 search-moved n true true f e i =
     record {
       fits = i;
       onward = λ k z. let w : 0 < 0 = rw e at z in absurd (omega arith);
-      over = λ k. absurd (false≢true (rw e at k))
+      over = λ k. absurd (false≢true (rw e at k));
     }
 search-moved n false x f e i =
     record {
       fits = i;
       onward = λ k z. let w : 0 < 0 = rw e at z in absurd (omega arith);
-      over = λ k. absurd (false≢true (rw e at k))
+      over = λ k. absurd (false≢true (rw e at k));
     }
 
 moved-at : (n : ℕ) (framing starting : Bool) (left rt : ℕ) (first second noise : Bool) (shift : ℕ) (three x : Bool) →

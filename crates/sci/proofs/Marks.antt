@@ -1,9 +1,9 @@
 -- Every change of the status keeps this: a receive flag that is marked as seen is set.
-use mathlib.Core.Path.{_≡_, refl, ap, sym, _∙_}
-use mathlib.Core.Bool.{Bool, true, false, cond, not, _&&_, _||_, true≢false, false≢true}
+use mathlib.Core.Path.{_≡_, refl, sym, _∙_}
+use mathlib.Core.Bool.{Bool, true, false, not, _&&_, _||_, false≢true}
 use Prim.Native.Nat.{ℕ}
 use Rattle.sci.specs.Flags.{receiveFlags, contains, common}
-use Rattle.sci.specs.Members.{member, Membership}
+use Rattle.sci.specs.Members.{member}
 use Rattle.sci.specs.Status.{raise, raiseIf, fall, fallIf, markSeen, fallSeen}
 use Rattle.sci.specs.Receiver.{raised, entered, statusAfter}
 use Rattle.sci.specs.declared.flags.Flags.{Flags}
@@ -36,8 +36,8 @@ pub all : (s : Status) → ((k : ℕ) → member k receiveFlags ≡ true → isM
 all s f =
     membership (s .flags) (common (s .seen) receiveFlags) .subset .1
     (λ k e.
-      let m : isMarked k s && member k receiveFlags ≡ true = sym (member-common k (s .seen) receiveFlags) ∙ e in
-      f k (and-second (isMarked k s) (member k receiveFlags) m) (and-first (isMarked k s) (member k receiveFlags) m))
+    let m : isMarked k s && member k receiveFlags ≡ true = sym (member-common k (s .seen) receiveFlags) ∙ e in
+    f k (and-second (isMarked k s) (member k receiveFlags) m) (and-first (isMarked k s) (member k receiveFlags) m))
 
 or-keeps : (m s b : Bool) → (m ≡ true → s ≡ true) → m ≡ true → s || b ≡ true
 or-keeps m true b f e = refl
@@ -81,8 +81,8 @@ pub marked-fallSeen-on : (s : Status) (g : Flags) → Marked s → Marked (fallS
 marked-fallSeen-on s g m =
     all (fallSeen s g)
     (λ k h e.
-      rw (set-fallSeen k s g)
-      (and-keeps (isMarked k s) (isSet k s) (not (isSet k s && isMarked k s && member k g)) (at s m k h) (sym (marked-fallSeen k s g) ∙ e)))
+    rw (set-fallSeen k s g)
+    (and-keeps (isMarked k s) (isSet k s) (not (isSet k s && isMarked k s && member k g)) (at s m k h) (sym (marked-fallSeen k s g) ∙ e)))
 
 marked-raised : (s : Status) (f : Frame) (bad : Bool) → Marked s → Marked (raised s f bad)
 unfolding raised

@@ -1,7 +1,6 @@
 -- The laws of membership: bit k of a bitwise or, of an and, and of what is left of a number without its share of another.
 use mathlib.Core.Path.{_≡_, refl, ap, sym, _∙_}
 use mathlib.Core.Bool.{Bool, true, false, not, _&&_, _||_, true≢false, false≢true}
-use mathlib.Core.Logic.{_↔_}
 use Prim.Native.Nat.{ℕ, zero, suc, _+_, _-_, _*_, _/_, _%_, _^_, _<_, _≤_}
 use native.Mathlib.Omega.{arith}
 use native.Mathlib.Nat.{add-comm, div-div-eq-div-mul, pow-succ', two-pow-succ}
@@ -108,7 +107,7 @@ bits-same zero a b g h p = omega arith
 bits-same (suc n) a b g h p =
     let z : a / 1 % 2 ≡ b / 1 % 2 = digit-eq (a / 1 % 2) (b / 1 % 2) (omega arith) (omega arith) (p 0) in
     let half : a / 2 ≡ b / 2 =
-      bits-same n (a / 2) (b / 2) (omega arith) (omega arith) (λ k. rw (← halves a k, ← halves b k) (p (suc k))) in
+    bits-same n (a / 2) (b / 2) (omega arith) (omega arith) (λ k. rw (← halves a k, ← halves b k) (p (suc k))) in
     omega arith
 
 and-right : (a b : Bool) → (b ≡ true → a ≡ true) → a && b ≡ b
@@ -151,7 +150,7 @@ subset-from a b e k h =
 subset-to : (a b : Flags) → ((k : ℕ) → member k b ≡ true → member k a ≡ true) → contains a b ≡ true
 subset-to a b f =
     let same : common a b ≡ b =
-      same-members (common a b) b (λ k. member-common k a b ∙ and-right (member k a) (member k b) (f k)) in
+    same-members (common a b) b (λ k. member-common k a b ∙ and-right (member k a) (member k b) (f k)) in
     eq-eqb _ _ (ap (λ (x : Flags). x .bits) same)
 
 pub membership : (a b : Flags) → Membership a b
@@ -162,5 +161,5 @@ membership a b =
       shared = λ k. member-common k a b;
       contained = λ k. contains-flag k a;
       subset = (subset-from a b, subset-to a b);
-      same = same-members a b
+      same = same-members a b;
     }

@@ -1,22 +1,21 @@
 -- Ones lead a receiver that is on and awake to one state of its line.
-use mathlib.Core.Path.{_≡_, refl, ap, sym, subst, _∙_}
-use mathlib.Core.Bool.{Bool, true, false, cond, not, _&&_, _||_, true≢false, false≢true}
+use mathlib.Core.Path.{_≡_, refl, subst}
+use mathlib.Core.Bool.{Bool, true, false, not, _&&_}
 use mathlib.Core.List.{List, [], _∷_}
-use Prim.Native.Nat.{ℕ, zero, suc, _+_, _*_, _≤_, _<_, min}
+use Prim.Native.Nat.{ℕ, zero, suc, _+_, _≤_, _<_}
 use native.Mathlib.Omega.{arith}
 use native.Mathlib.Decide.{decLt}
-use Rattle.sci.specs.Control.{ILT, M, WAKE, bitsOf, frameSamples}
+use Rattle.sci.specs.Control.{ILT, M, bitsOf, frameSamples}
 use Rattle.sci.specs.Framer.{searching, ends, framed}
 use Rattle.sci.specs.Receiver.{three, idleCount, outcome, receiverAfter, received}
 use Rattle.sci.specs.Line.{Op, sample, read, act, acts, Ones, samplesIn, resyncSamples}
-use Rattle.sci.specs.Sound.{span, togo, Fits, Sound}
+use Rattle.sci.specs.Sound.{span, togo, Sound}
 use Rattle.sci.specs.Alike.{line}
 use Rattle.sci.specs.declared.framer.Framer.{Framer}
 use Rattle.sci.specs.declared.receiver.Receiver.{Receiver}
-use Rattle.sci.specs.declared.receiver.Outcome.{Outcome}
 use Rattle.sci.specs.declared.receiver.Received.{Received}
 use Rattle.sci.proofs.Frames.{Moved, moved, no-frame}
-use Rattle.sci.proofs.Invariant.{sound-act}
+use Rattle.sci.proofs.Sound.{sound-act}
 
 -- After k ones: a running frame is near its end, an ended one has left the idle count near its limit.
 pub record Progress (n k : ℕ) (r : Receiver) : Type 0 where
@@ -50,7 +49,7 @@ progress-start n p i a =
       one = λ h. absurd (omega arith);
       two = λ h. absurd (omega arith);
       tri = λ h. absurd (omega arith);
-      awake = a
+      awake = a;
     }
 
 pub progress-one : (sccr1 k : ℕ) (p : Received) → Sound (bitsOf (M sccr1)) p → Progress (bitsOf (M sccr1)) k (p .receiver) →
@@ -64,13 +63,13 @@ progress-one sccr1 k p i g =
     record {
       busy = λ h. omega (arith, m .onward refl h, g .busy (omega (arith, m .onward refl h)));
       rest =
-        λ z c.
-        rest-after (ends f) (ILT sccr1) n k (r .idle) (togo n f) (togo n (framed n f (three r) true)) (m .over) (g .busy)
-        (g .rest) c;
+          λ z c.
+          rest-after (ends f) (ILT sccr1) n k (r .idle) (togo n f) (togo n (framed n f (three r) true)) (m .over) (g .busy)
+          (g .rest) c;
       one = λ h. refl;
       two = λ h. g .one (omega arith);
       tri = λ h. g .two (omega arith);
-      awake = rw (g .awake)
+      awake = rw (g .awake);
     }
 
 progress-read : (sccr1 k : ℕ) (scsr scdr : Bool) (p : Received) → Progress (bitsOf (M sccr1)) k (p .receiver) →
@@ -103,7 +102,7 @@ settled n =
       idle = frameSamples n;
       since = false;
       asleep = false;
-      scdr = 0
+      scdr = 0;
     }
 
 pub settles : (n k : ℕ) (p : Received) → Sound n p → Progress n k (p .receiver) → n ≤ 9 → resyncSamples ≤ k →
@@ -112,7 +111,7 @@ settles n k p i g hn hk =
     let r : Receiver = p .receiver in
     let z : togo n (r .framer) ≡ 0 = by-zero (togo n (r .framer)) (λ e. e) (λ h. absurd (omega (arith, g .busy h))) in
     let c : r .idle ≡ frameSamples n =
-      elim (decLt (r .idle) (frameSamples n)) [ yes h ↦ absurd (omega (arith, g .rest z h)) | no h ↦ omega (arith, i .top) ] in
+    elim (decLt (r .idle) (frameSamples n)) [ yes h ↦ absurd (omega (arith, g .rest z h)) | no h ↦ omega (arith, i .top) ] in
     let f : r .framer ≡ searching = no-frame n (r .framer) (i .fits) z in
     let e₁ : r .last1 ≡ true = g .one (omega arith) in
     let e₂ : r .last2 ≡ true = g .two (omega arith) in
@@ -128,5 +127,5 @@ settles n k p i g hn hk =
       idle = c j;
       since = s j;
       asleep = a j;
-      scdr = 0
+      scdr = 0;
     }

@@ -1,30 +1,27 @@
 -- Demand 3, first half, of the serial half: each history comes down to its receiver's samples and reads.
 use mathlib.Core.Path.{_≡_, refl, ap, sym, subst, _∙_}
-use mathlib.Core.Bool.{Bool, true, false, cond, not, _&&_, _||_, true≢false, false≢true}
+use mathlib.Core.Bool.{Bool, true, false, true≢false, false≢true}
 use mathlib.Core.List.{List, [], _∷_}
-use Prim.Native.Nat.{ℕ, _≤_}
+use Prim.Native.Nat.{ℕ}
 use lib.Dec.{eqb}
 use Rattle.steps.specs.Bits.{merge}
-use Rattle.sci.specs.Flags.{RAF, transmitFlags}
-use Rattle.sci.specs.Status.{fall, fallSeen}
-use Rattle.sci.specs.Control.{RE, RWU, M, bitsOf, settings, sccr0Bits, sccr1Bits}
+use Rattle.sci.specs.Flags.{RAF}
+use Rattle.sci.specs.Control.{RE, RWU, sccr0Bits}
 use Rattle.sci.specs.Receiver.{startState}
-use Rattle.sci.specs.Transmitter.{sent}
-use Rattle.sci.specs.Line.{Op, read, act, acts, readStatus, shown, noFlag, watch}
-use Rattle.sci.specs.Alike.{Same, Alike}
-use Rattle.sci.specs.Resync.{Started, Quiet, Waited}
+use Rattle.sci.specs.Line.{Op, read, act, acts, watch}
+use Rattle.sci.specs.Alike.{Alike}
+use Rattle.sci.specs.Resync.{Started}
 use Rattle.sci.specs.Serial.{resetSci, active, due, sccr1Word, dataWritten, wroteSccr0, wroteSccr1, sccr0Guarded, sccr1Guarded, stopped, withSleep, withSccr1}
-use Rattle.sci.specs.History.{Step, reset, clock, reads, writesSccr0, writesSccr1, writesScdr, step, run, receiving, ops, watched, Unbroken}
-use Rattle.sci.specs.Demand3.{Recovers, Off, Compared, Recovered}
-use Rattle.sci.specs.declared.status.Status.{Status}
+use Rattle.sci.specs.History.{Step, reset, clock, reads, writesSccr0, writesSccr1, writesScdr, step, run, receiving, ops}
+use Rattle.sci.specs.Demand3.{Off, Compared, Recovered}
 use Rattle.sci.specs.declared.receiver.Receiver.{Receiver}
 use Rattle.sci.specs.declared.receiver.Received.{Received}
 use Rattle.sci.specs.declared.serial.Sci.{Sci}
 use Rattle.sci.proofs.Frames.{by-cond}
-use Rattle.sci.proofs.View.{same-sent, same-loaded, outside-fall}
-use Rattle.sci.proofs.Likeness.{alike-sym, alike-trans, alike-act, alike-watch}
-use Rattle.sci.proofs.Again.{Clear, same-clear, clear-read, resync-alike}
-use Rattle.sci.proofs.Serve.{turned, clock-turned, Kept, kept-history, re-put}
+use Rattle.sci.proofs.Same.{same-sent, same-loaded, outside-fall}
+use Rattle.sci.proofs.Alike.{alike-sym, alike-trans, alike-act, alike-watch}
+use Rattle.sci.proofs.Resync.{Clear, same-clear, clear-read, resync-alike}
+use Rattle.sci.proofs.Reachable.{turned, clock-turned, Reachable, reachable-history, re-put}
 use Rattle.sci.proofs.Follow.{step-sccr1, run-sccr1, run-alike, run-watched}
 
 -- While RE is clear no receive flag rises.
@@ -108,7 +105,7 @@ sccr1-kept s v upper lower =
     by-cond (λ (t : Sci). t .sccr1 ≡ s .sccr1) (eqb (sccr0Bits (merge (s .sccr0) v upper lower)) (s .sccr0)) (λ e. refl)
     (λ e. refl)
 
-rises : (e : Step) (s : Sci) → Kept s → RE (s .sccr1) ≡ false → Clear (s .status) → Rises s (step e s)
+rises : (e : Step) (s : Sci) → Reachable s → RE (s .sccr1) ≡ false → Clear (s .status) → Rises s (step e s)
 unfolding step Rises
 rises reset s k h c = λ g a. absurd (false≢true g)
 rises (clock x) s k h c = rises-no s (step (clock x) s) h (step-sccr1 (clock x) s refl)
@@ -127,7 +124,7 @@ compared-started : (early : List Step) (enable : Step) (waited : List Step) → 
 unfolding Rises
 compared-started early enable waited k =
     let o = off-run early resetSci (k .off) refl clear-reset in
-    rises enable (run early resetSci) (kept-history early) (o .0) (o .1) (k .rises) (k .awake)
+    rises enable (run early resetSci) (reachable-history early) (o .0) (o .1) (k .rises) (k .awake)
 
 read-alike : (sccr1 : ℕ) (scdr : Bool) (s : Sci) (p : Received) → Alike (receiving s) p →
     Alike (receiving (step (reads true scdr) s)) (act sccr1 (read true scdr) p)
@@ -147,19 +144,19 @@ recovered before quiet scdr early enable waited later later′ h k =
     let pq : Alike (receiving (run quiet m)) p = run-alike quiet m (h .unbroken) in
     λ e ul ul′ same.
     let alike : Alike (receiving z) (receiving y) =
-      alike-trans (receiving z) (act a (read true scdr) p) (receiving y) (read-alike a scdr (run quiet m) p pq)
-      (alike-trans (act a (read true scdr) p) q (receiving y)
-      (resync-alike a b e (receiving m) (receiving c) (ops quiet m) (ops waited c)
-      (record {
-        sound = kept-history before .sound;
-        awake = h .awake;
-        ones = h .ones;
-        enough = h .enough;
-        clear = sym (pq .same .flags) ∙ h .clear
-      })
-      (record { started = compared-started early enable waited k; ones = k .ones; enough = k .enough })
-      scdr)
-      (alike-sym (receiving y) q (run-alike waited c (k .unbroken)))) in
+    alike-trans (receiving z) (act a (read true scdr) p) (receiving y) (read-alike a scdr (run quiet m) p pq)
+    (alike-trans (act a (read true scdr) p) q (receiving y)
+    (resync-alike a b e (receiving m) (receiving c) (ops quiet m) (ops waited c)
+    (record {
+      sound = reachable-history before .sound;
+      awake = h .awake;
+      ones = h .ones;
+      enough = h .enough;
+      clear = sym (pq .same .flags) ∙ h .clear;
+    })
+    (record { started = compared-started early enable waited k; ones = k .ones; enough = k .enough })
+    scdr)
+    (alike-sym (receiving y) q (run-alike waited c (k .unbroken)))) in
     let za : z .sccr1 ≡ a = step-sccr1 (reads true scdr) (run quiet m) refl ∙ run-sccr1 quiet m (h .unbroken) in
     let yb : y .sccr1 ≡ b = run-sccr1 waited c (k .unbroken) in
     run-watched later z ul

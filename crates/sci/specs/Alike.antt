@@ -1,5 +1,5 @@
 -- What of a receiver the line and the reads can ever bring out: all but the flags and marks that are not its own, and a word that is not fresh.
-use mathlib.Core.Bool.{Bool, true}
+use mathlib.Core.Bool.{true}
 use mathlib.Core.Path.{_≡_}
 use Prim.Native.Nat.{ℕ}
 use Rattle.sci.specs.Flags.{RDRF, receiveFlags, common}

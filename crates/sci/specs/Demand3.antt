@@ -2,7 +2,7 @@
 use mathlib.Core.Bool.{Bool, true, false}
 use mathlib.Core.List.{List, [], _∷_}
 use mathlib.Core.Path.{_≡_}
-use Prim.Native.Nat.{ℕ, _≤_}
+use Prim.Native.Nat.{_≤_}
 use Rattle.sci.specs.Control.{RE, settings}
 use Rattle.sci.specs.Line.{shown, noFlag, Ones, samplesIn, resyncSamples}
 use Rattle.sci.specs.Serial.{resetSci}

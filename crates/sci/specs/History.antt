@@ -1,7 +1,7 @@
 -- The serial half from reset on: what can happen to it, one step at a time, and what of it reaches the receiver.
 use mathlib.Core.Bool.{Bool, true, false, cond, not, _&&_}
 use mathlib.Core.List.{List, [], _∷_, _++_}
-use mathlib.Core.Option.{Option, none}
+use mathlib.Core.Option.{none}
 use mathlib.Core.Path.{_≡_}
 use Prim.Native.Nat.{ℕ}
 use Rattle.sci.specs.Control.{RE}

@@ -1,12 +1,11 @@
 -- Demand 3: what reaches a receiver that is on, between resets and writes to SCCR0 and SCCR1, and what is compared of it.
-use mathlib.Core.Bool.{Bool, true, false, cond, not, _&&_}
+use mathlib.Core.Bool.{Bool, true, false, not, _&&_}
 use mathlib.Core.List.{List, [], _∷_}
 use mathlib.Core.Option.{Option, none, some}
-use mathlib.Core.Path.{_≡_}
-use Prim.Native.Nat.{ℕ, zero, suc, _%_}
+use Prim.Native.Nat.{ℕ, suc, _%_}
 use Rattle.sci.specs.Flags.{RDRF, receiveFlags, flag, common}
 use Rattle.sci.specs.Status.{has, markSeen, fallSeen}
-use Rattle.sci.specs.Receiver.{startState, received}
+use Rattle.sci.specs.Receiver.{received}
 use Rattle.sci.specs.declared.flags.Flags.{Flags}
 use Rattle.sci.specs.declared.status.Status.{Status}
 use Rattle.sci.specs.declared.receiver.Received.{Received}

@@ -9,7 +9,6 @@ use Rattle.sci.specs.Control.{M, bitsOf, settings}
 use Rattle.sci.specs.Receiver.{startState}
 use Rattle.sci.specs.Line.{Op, read, act, acts, shown, noFlag, watch, Ones, samplesIn, resyncSamples}
 use Rattle.sci.specs.Sound.{Sound}
-use Rattle.sci.specs.Alike.{Alike}
 use Rattle.sci.specs.declared.receiver.Received.{Received}
 
 -- First enabled after a reset, RWU clear: the start state, no receive flag set or seen.

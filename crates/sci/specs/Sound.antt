@@ -1,11 +1,10 @@
 -- What holds of every receiver that is on, whatever the line and the reads do.
-use mathlib.Core.Bool.{Bool, true, false, cond}
+use mathlib.Core.Bool.{true, false, cond}
 use mathlib.Core.Path.{_≡_}
-use Prim.Native.Nat.{ℕ, suc, _+_, _-_, _*_, _%_, _≤_, _<_}
+use Prim.Native.Nat.{ℕ, _+_, _-_, _*_, _%_, _≤_, _<_}
 use Rattle.sci.specs.Flags.{receiveFlags, contains, common}
 use Rattle.sci.specs.Control.{frameSamples}
 use Rattle.sci.specs.Framer.{searching}
-use Rattle.sci.specs.declared.status.Status.{Status}
 use Rattle.sci.specs.declared.framer.Framer.{Framer}
 use Rattle.sci.specs.declared.receiver.Received.{Received}
 

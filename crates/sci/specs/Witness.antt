@@ -9,7 +9,7 @@ use Rattle.sci.specs.Control.{settings}
 use Rattle.sci.specs.Line.{Seen, resyncSamples}
 use Rattle.sci.specs.Serial.{resetSci}
 use Rattle.sci.specs.History.{Step, clock, reads, writesSccr0, writesSccr1, step, run, ops, watched, Unbroken}
-use Rattle.sci.specs.Overrun.{Mark, frameLost, wordCame, statusRead, wordDelivered, log}
+use Rattle.sci.specs.Overrun.{frameLost, wordCame, statusRead, wordDelivered, log}
 use Rattle.sci.specs.Demand3.{Recovers, Compared}
 use Rattle.sci.specs.declared.serial.Sci.{Sci}
 

@@ -1,19 +1,18 @@
 -- Samples, reads, a start state and the transmitter's flags keep what holds of every receiver that is on.
-use mathlib.Core.Path.{_≡_, refl, ap, sym, subst, _∙_}
-use mathlib.Core.Bool.{Bool, true, false, cond, not, _&&_, _||_, true≢false, false≢true}
+use mathlib.Core.Path.{_≡_, refl}
+use mathlib.Core.Bool.{Bool, true, false, not, _&&_, _||_, false≢true}
 use mathlib.Core.List.{List, [], _∷_}
-use Prim.Native.Nat.{ℕ, zero, suc, _+_, _*_, _≤_, _<_, min}
+use Prim.Native.Nat.{ℕ, suc, _+_, _≤_, _<_}
 use native.Mathlib.Omega.{arith}
 use lib.Dec.{eqb}
 use borrow.Author.Tests.{eqb-false}
-use Rattle.sci.specs.Flags.{contains, receiveFlags}
-use Rattle.sci.specs.Status.{markSeen, fallSeen}
+use Rattle.sci.specs.Flags.{receiveFlags}
 use Rattle.sci.specs.Control.{ILT, M, PE, PT, bitsOf, frameSamples}
 use Rattle.sci.specs.Bits.{parityBit}
-use Rattle.sci.specs.Framer.{searching, ends, frameOf, framed}
-use Rattle.sci.specs.Receiver.{startState, three, takes, full, reaches, idleCount, outcome, statusAfter, receiverAfter, received}
+use Rattle.sci.specs.Framer.{ends, frameOf, framed}
+use Rattle.sci.specs.Receiver.{startState, three, takes, full, idleCount, outcome, receiverAfter, received}
 use Rattle.sci.specs.Line.{Op, sample, read, act, acts, looked, fetched, readStatus}
-use Rattle.sci.specs.Sound.{span, togo, Fits, Sound}
+use Rattle.sci.specs.Sound.{span, togo, Sound}
 use Rattle.sci.specs.declared.status.Status.{Status}
 use Rattle.sci.specs.declared.framer.Framer.{Framer}
 use Rattle.sci.specs.declared.receiver.Receiver.{Receiver}
@@ -62,17 +61,17 @@ sound-sample sccr1 x p i =
     record {
       fits = m .fits;
       low =
-        low-after (o .counted) n (r .idle) (togo n f) (togo n g)
-        (λ c. m .onward (and-first x (not (ends f && ILT sccr1)) c)) (i .low) (within n g (m .fits));
+          low-after (o .counted) n (r .idle) (togo n f) (togo n g)
+          (λ c. m .onward (and-first x (not (ends f && ILT sccr1)) c)) (i .low) (within n g (m .fits));
       top = top-after (o .counted) n (r .idle);
       calm =
-        calm-after (o .counted) (o .reached) (o .taken && not (o .lost)) (r .since) n (r .idle) refl (i .top) (i .calm)
-        (λ z.
+          calm-after (o .counted) (o .reached) (o .taken && not (o .lost)) (r .since) n (r .idle) refl (i .top) (i .calm)
+          (λ z.
           not-ended (ends f) (takes r sccr1 (f .shift)) (o .lost)
           (λ e. omega (arith, m .over e, i .low (omega (arith, m .over e)))));
       marks =
-        marked-after (p .status) o (frameOf f x) (PE sccr1 && parityBit (PT sccr1) (f .shift))
-        (o .reached && not (r .asleep) && r .since) (i .marks)
+          marked-after (p .status) o (frameOf f x) (PE sccr1 && parityBit (PT sccr1) (f .shift))
+          (o .reached && not (r .asleep) && r .since) (i .marks);
     }
 
 -- Where the receiver keeps still, only the marks matter.
@@ -106,9 +105,9 @@ pub sound-start : (n : ℕ) (r : Receiver) (s : Status) → Marked s → Sound n
 sound-start n r s m =
     record {
       fits =
-        record { rests = λ e. refl; early = λ e h. absurd (false≢true e); late = λ e h. absurd (false≢true e) };
+          record { rests = λ e. refl; early = λ e h. absurd (false≢true e); late = λ e h. absurd (false≢true e) };
       low = λ z. absurd (omega arith);
       top = omega arith;
       calm = λ e. refl;
-      marks = m
+      marks = m;
     }

@@ -1,33 +1,31 @@
 -- What holds of the serial half after every history, and how its steps reach the receiver.
 use mathlib.Core.Path.{_≡_, refl, ap, sym, subst, _∙_}
 use mathlib.Core.Bool.{Bool, true, false, cond, not, _&&_, _||_, true≢false, false≢true}
-use mathlib.Core.List.{List, [], _∷_, _++_}
+use mathlib.Core.List.{List, [], _∷_}
 use Prim.Native.Nat.{ℕ, _+_, _*_, _/_, _%_, _^_}
 use native.Mathlib.Omega.{arith}
 use lib.Dec.{eqb}
 use borrow.Author.Tests.{eqb-true}
-use Rattle.steps.specs.Bits.{bit, merge}
-use Rattle.sci.specs.Flags.{flag, RAF, receiveFlags, transmitFlags, contains, common}
+use Rattle.steps.specs.Bits.{merge}
+use Rattle.sci.specs.Flags.{RAF, transmitFlags}
 use Rattle.sci.specs.Status.{fall, fallSeen}
 use Rattle.sci.specs.Control.{TE, RE, RWU, M, bitsOf, settings, sccr0Bits, sccr1Bits}
-use Rattle.sci.specs.Receiver.{startState, received}
+use Rattle.sci.specs.Receiver.{startState}
 use Rattle.sci.specs.Transmitter.{runs, sent}
-use Rattle.sci.specs.Line.{Op, sample, read, act, acts, readStatus}
+use Rattle.sci.specs.Line.{sample, read, act, readStatus}
 use Rattle.sci.specs.Sound.{Sound}
-use Rattle.sci.specs.Alike.{Same, Alike}
-use Rattle.sci.specs.Serial.{resetSci, active, due, heard, afterSent, sampled, counted, prescaled, clocked, sccr1Word, withStatus, dataWritten, wroteSccr0, sccr0Set, stopped, withSleep, withSccr1, wroteSccr1, sccr0Guarded, sccr1Guarded}
-use Rattle.sci.specs.History.{Step, reset, clock, reads, writesSccr0, writesSccr1, writesScdr, step, run, receiving, sampling, stepOps, ops, breaks, Unbroken}
+use Rattle.sci.specs.Alike.{Same}
+use Rattle.sci.specs.Serial.{resetSci, active, due, heard, afterSent, sampled, counted, prescaled, clocked, sccr1Word, withStatus, dataWritten, wroteSccr0, stopped, withSleep, withSccr1, wroteSccr1, sccr0Guarded, sccr1Guarded}
+use Rattle.sci.specs.History.{Step, reset, clock, reads, writesSccr0, writesSccr1, writesScdr, step, run, receiving}
 use Rattle.sci.specs.declared.status.Status.{Status}
 use Rattle.sci.specs.declared.receiver.Receiver.{Receiver}
 use Rattle.sci.specs.declared.receiver.Received.{Received}
 use Rattle.sci.specs.declared.serial.Sci.{Sci}
-use Rattle.sci.proofs.Flagged.{isSet, isMarked}
 use Rattle.sci.proofs.Marks.{Marked, at, all, marked-fall-on}
-use Rattle.sci.proofs.View.{Receives, set-at, marked-at, same-sym, same-sent, same-loaded}
+use Rattle.sci.proofs.Same.{set-at, marked-at, same-sent, same-loaded}
 use Rattle.sci.proofs.Settings.{same-bits}
 use Rattle.sci.proofs.Frames.{by-cond}
-use Rattle.sci.proofs.Likeness.{alike-refl, alike-sym, alike-trans, alike-status, alike-act}
-use Rattle.sci.proofs.Invariant.{sound-act, sound-status, sound-start}
+use Rattle.sci.proofs.Sound.{sound-act, sound-status, sound-start}
 
 -- One clock, by whether the half is active, a sample is due, and the receiver is on.
 abbrev pub turned : Bool → Bool → Bool → Sci → Bool → Sci
@@ -50,57 +48,57 @@ same-marked s t e m =
     all t (λ k h g. sym (set-at s t e k h) ∙ at s m k h (marked-at s t e k h ∙ g))
 
 -- After every history: the receiver is sound, and with RE clear it is in its start state.
-pub record Kept (s : Sci) : Type 0 where
+pub record Reachable (s : Sci) : Type 0 where
   pub sound : Sound (bitsOf (M (s .sccr1))) (receiving s)
   pub off : RE (s .sccr1) ≡ false → s .receiver ≡ startState (s .receiver)
 
-kept-reset : Kept resetSci
-kept-reset =
+reachable-reset : Reachable resetSci
+reachable-reset =
     record { sound = sound-start 8 (resetSci .receiver) (resetSci .status) refl; off = λ e. refl }
 
 -- A change of the status alone.
-kept-status : (s : Sci) (t : Status) → Kept s → Marked t → Kept (withStatus s t)
-kept-status s t k m =
+reachable-status : (s : Sci) (t : Status) → Reachable s → Marked t → Reachable (withStatus s t)
+reachable-status s t k m =
     record { sound = sound-status (bitsOf (M (s .sccr1))) (receiving s) t (k .sound) m; off = k .off }
 
-kept-turned : (a d on : Bool) (s : Sci) (x : Bool) → RE (s .sccr1) ≡ on → Kept s → Kept (turned a d on s x)
+reachable-turned : (a d on : Bool) (s : Sci) (x : Bool) → RE (s .sccr1) ≡ on → Reachable s → Reachable (turned a d on s x)
 unfolding act
-kept-turned true true true s x e k =
+reachable-turned true true true s x e k =
     let t : Status = sent (s .transmitter) (s .status) (s .sccr1) .status in
     let m : Marked t = same-marked (s .status) t (same-sent (s .transmitter) (s .status) (s .sccr1)) (k .sound .marks) in
     record {
       sound =
-        sound-act (s .sccr1) (sample x) (record { receiver = s .receiver; status = t })
-        (sound-status (bitsOf (M (s .sccr1))) (receiving s) t (k .sound) m);
-      off = λ h. absurd (true≢false (sym e ∙ h))
+          sound-act (s .sccr1) (sample x) (record { receiver = s .receiver; status = t })
+          (sound-status (bitsOf (M (s .sccr1))) (receiving s) t (k .sound) m);
+      off = λ h. absurd (true≢false (sym e ∙ h));
     }
-kept-turned true true false s x e k =
+reachable-turned true true false s x e k =
     let t : Status = sent (s .transmitter) (s .status) (s .sccr1) .status in
     let m : Marked t = same-marked (s .status) t (same-sent (s .transmitter) (s .status) (s .sccr1)) (k .sound .marks) in
     record { sound = sound-status (bitsOf (M (s .sccr1))) (receiving s) t (k .sound) m; off = k .off }
-kept-turned true false on s x e k = record { sound = k .sound; off = k .off }
-kept-turned false d on s x e k = k
+reachable-turned true false on s x e k = record { sound = k .sound; off = k .off }
+reachable-turned false d on s x e k = k
 
-kept-read : (scsr scdr : Bool) (s : Sci) → Kept s → Kept (withStatus s (readStatus scsr scdr (s .status)))
+reachable-read : (scsr scdr : Bool) (s : Sci) → Reachable s → Reachable (withStatus s (readStatus scsr scdr (s .status)))
 unfolding act
-kept-read scsr scdr s k =
-    kept-status s (readStatus scsr scdr (s .status)) k (sound-act (s .sccr1) (read scsr scdr) (receiving s) (k .sound) .marks)
+reachable-read scsr scdr s k =
+    reachable-status s (readStatus scsr scdr (s .status)) k (sound-act (s .sccr1) (read scsr scdr) (receiving s) (k .sound) .marks)
 
-kept-sccr0 : (s : Sci) (v : ℕ) (upper lower : Bool) → Kept s → Kept (wroteSccr0 s v upper lower)
+reachable-sccr0 : (s : Sci) (v : ℕ) (upper lower : Bool) → Reachable s → Reachable (wroteSccr0 s v upper lower)
 unfolding wroteSccr0
-kept-sccr0 s v upper lower k =
-    by-cond Kept (eqb (sccr0Bits (merge (s .sccr0) v upper lower)) (s .sccr0)) (λ e. k)
+reachable-sccr0 s v upper lower k =
+    by-cond Reachable (eqb (sccr0Bits (merge (s .sccr0) v upper lower)) (s .sccr0)) (λ e. k)
     (λ e. record { sound = k .sound; off = k .off })
 
-kept-scdr : (lower : Bool) (s : Sci) (v : ℕ) (upper : Bool) → Kept s → Kept (dataWritten lower s v upper)
-kept-scdr true s v upper k =
+reachable-scdr : (lower : Bool) (s : Sci) (v : ℕ) (upper : Bool) → Reachable s → Reachable (dataWritten lower s v upper)
+reachable-scdr true s v upper k =
     record {
       sound =
-        sound-status (bitsOf (M (s .sccr1))) (receiving s) (fallSeen (s .status) transmitFlags) (k .sound)
-        (same-marked (s .status) (fallSeen (s .status) transmitFlags) (same-loaded (s .status)) (k .sound .marks));
-      off = k .off
+          sound-status (bitsOf (M (s .sccr1))) (receiving s) (fallSeen (s .status) transmitFlags) (k .sound)
+          (same-marked (s .status) (fallSeen (s .status) transmitFlags) (same-loaded (s .status)) (k .sound .marks));
+      off = k .off;
     }
-kept-scdr false s v upper k = k
+reachable-scdr false s v upper k = k
 
 -- A write of SCCR1 puts the bits 12:8 that the guard tests.
 fours : (z : ℕ) → z / 4 * 4 / 256 ≡ z / 256
@@ -151,13 +149,13 @@ unfolding sccr1Guarded
 settings-stand s v upper lower e h =
     settings-put (s .sccr1) v (s .receiver .asleep) upper lower
     ∙ eqb-true (settings (merge (s .sccr1) v upper lower)) (settings (s .sccr1))
-      (not-guarded (TE (s .sccr1)) (RE (s .sccr1)) (runs (s .transmitter)) _ e h)
+    (not-guarded (TE (s .sccr1)) (RE (s .sccr1)) (runs (s .transmitter)) _ e h)
 
 sound-sleep : (n : ℕ) (p : Received) (asleep : Bool) → Sound n p →
     Sound n (record { receiver = withSleep (p .receiver) asleep; status = p .status })
 sound-sleep n p asleep i = record { fits = i .fits; low = i .low; top = i .top; calm = i .calm; marks = i .marks }
 
-module _ (s : Sci) (w : ℕ) (k : Kept s) (stand : RE (s .sccr1) ≡ true → settings (sccr1Bits w) ≡ settings (s .sccr1)) where
+module _ (s : Sci) (w : ℕ) (k : Reachable s) (stand : RE (s .sccr1) ≡ true → settings (sccr1Bits w) ≡ settings (s .sccr1)) where
   sound-put : (on : Bool) → RE (s .sccr1) ≡ on → Sound (bitsOf (M (sccr1Bits w))) (receiving (withSccr1 s w))
   sound-put true e =
       subst (λ (n : ℕ). Sound n (receiving (withSccr1 s w))) (sym (same-bits (sccr1Bits w) (s .sccr1) (stand e)))
@@ -167,42 +165,42 @@ module _ (s : Sci) (w : ℕ) (k : Kept s) (stand : RE (s .sccr1) ≡ true → se
       (λ (r : Receiver). Sound (bitsOf (M (sccr1Bits w))) (record { receiver = withSleep r (RWU w); status = s .status }))
       (sym (k .off e)) (sound-start (bitsOf (M (sccr1Bits w))) (withSleep (s .receiver) (RWU w)) (s .status) (k .sound .marks))
 
-  kept-put : (on : Bool) → RE w ≡ on → Kept (stopped on (withSccr1 s w))
-  kept-put true e =
+  reachable-put : (on : Bool) → RE w ≡ on → Reachable (stopped on (withSccr1 s w))
+  reachable-put true e =
       record {
         sound = sound-put (RE (s .sccr1)) refl;
-        off = λ h. absurd (true≢false (sym e ∙ sym (re-put w) ∙ h))
+        off = λ h. absurd (true≢false (sym e ∙ sym (re-put w) ∙ h));
       }
-  kept-put false e =
+  reachable-put false e =
       record {
         sound =
-          sound-start (bitsOf (M (sccr1Bits w))) (withSleep (s .receiver) (RWU w)) (fall (s .status) RAF)
-          (marked-fall-on (s .status) RAF (k .sound .marks));
-        off = λ h. refl
+            sound-start (bitsOf (M (sccr1Bits w))) (withSleep (s .receiver) (RWU w)) (fall (s .status) RAF)
+            (marked-fall-on (s .status) RAF (k .sound .marks));
+        off = λ h. refl;
       }
 
-kept-sccr1 : (s : Sci) (v : ℕ) (upper lower : Bool) → sccr1Guarded s v upper lower ≡ false → Kept s →
-    Kept (wroteSccr1 s v upper lower)
+reachable-sccr1 : (s : Sci) (v : ℕ) (upper lower : Bool) → sccr1Guarded s v upper lower ≡ false → Reachable s →
+    Reachable (wroteSccr1 s v upper lower)
 unfolding wroteSccr1
-kept-sccr1 s v upper lower e k =
+reachable-sccr1 s v upper lower e k =
     let w : ℕ = merge (sccr1Word s) v upper lower in
-    kept-put s w k (settings-stand s v upper lower e) (RE w) refl
+    reachable-put s w k (settings-stand s v upper lower e) (RE w) refl
 
-pub kept-step : (e : Step) (s : Sci) → Kept s → Kept (step e s)
+pub reachable-step : (e : Step) (s : Sci) → Reachable s → Reachable (step e s)
 unfolding step
-kept-step reset s k = kept-reset
-kept-step (clock x) s k = rw (clock-turned s x) (kept-turned (active s) (due s) (RE (s .sccr1)) s x refl k)
-kept-step (reads scsr scdr) s k = kept-read scsr scdr s k
-kept-step (writesSccr0 v upper lower) s k =
-    by-cond Kept (sccr0Guarded s v upper lower) (λ e. k) (λ e. kept-sccr0 s v upper lower k)
-kept-step (writesSccr1 v upper lower) s k =
-    by-cond Kept (sccr1Guarded s v upper lower) (λ e. k) (λ e. kept-sccr1 s v upper lower e k)
-kept-step (writesScdr v upper lower) s k = kept-scdr lower s v upper k
+reachable-step reset s k = reachable-reset
+reachable-step (clock x) s k = rw (clock-turned s x) (reachable-turned (active s) (due s) (RE (s .sccr1)) s x refl k)
+reachable-step (reads scsr scdr) s k = reachable-read scsr scdr s k
+reachable-step (writesSccr0 v upper lower) s k =
+    by-cond Reachable (sccr0Guarded s v upper lower) (λ e. k) (λ e. reachable-sccr0 s v upper lower k)
+reachable-step (writesSccr1 v upper lower) s k =
+    by-cond Reachable (sccr1Guarded s v upper lower) (λ e. k) (λ e. reachable-sccr1 s v upper lower e k)
+reachable-step (writesScdr v upper lower) s k = reachable-scdr lower s v upper k
 
-pub kept-run : (es : List Step) (s : Sci) → Kept s → Kept (run es s)
+pub reachable-run : (es : List Step) (s : Sci) → Reachable s → Reachable (run es s)
 unfolding run
-kept-run [] s k = k
-kept-run (e ∷ es) s k = kept-run es (step e s) (kept-step e s k)
+reachable-run [] s k = k
+reachable-run (e ∷ es) s k = reachable-run es (step e s) (reachable-step e s k)
 
-pub kept-history : (es : List Step) → Kept (run es resetSci)
-kept-history es = kept-run es resetSci kept-reset
+pub reachable-history : (es : List Step) → Reachable (run es resetSci)
+reachable-history es = reachable-run es resetSci reachable-reset

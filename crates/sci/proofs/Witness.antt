@@ -1,27 +1,19 @@
 -- The histories of specs/Witness, computed.
 use mathlib.Core.Bool.{Bool, true, false, false≢true}
-use mathlib.Core.List.{List, [], _∷_, _++_}
+use mathlib.Core.List.{List, [], _∷_}
 use mathlib.Core.Path.{_≡_, refl}
-use Prim.Native.Nat.{ℕ, zero, suc, _*_, _≤_}
 use native.Mathlib.Omega.{arith}
-use lib.ListN.{replicate}
-use Rattle.sci.specs.Control.{RE, settings}
 use Rattle.sci.specs.Status.{has, raise, raiseIf, fall, fallIf, markSeen, fallSeen}
 use Rattle.sci.specs.Framer.{startBit, dataBit, stopBit, framed}
 use Rattle.sci.specs.Receiver.{outcome, raised, entered, statusAfter, receiverAfter, received}
 use Rattle.sci.specs.Transmitter.{sent}
-use Rattle.sci.specs.Line.{Ones, samplesIn, delivers, shown, noFlag, resyncSamples}
+use Rattle.sci.specs.Line.{delivers, resyncSamples}
 use Rattle.sci.specs.Serial.{resetSci, sampled, clocked, wroteSccr0, wroteSccr1, sccr0Guarded, sccr1Guarded}
 use Rattle.sci.specs.History.{Step, reset, clock, reads, writesSccr0, writesSccr1, writesScdr, step, run, ops, watched, Unbroken}
 use Rattle.sci.specs.Overrun.{log}
-use Rattle.sci.specs.Demand3.{Recovers, Compared, Demand3}
-use Rattle.sci.specs.Witness.{samples, letter, fetch, rate, enable, before, quiet, later, recovering, waiting, wordsOf, losing, Met}
+use Rattle.sci.specs.Demand3.{Recovers, Compared}
+use Rattle.sci.specs.Witness.{samples, rate, enable, before, quiet, later, recovering, waiting, wordsOf, Met}
 use Rattle.sci.specs.declared.serial.Sci.{Sci}
-use Rattle.sci.proofs.Recovery.{recovered}
-use Rattle.sci.proofs.Losses.{overrun}
-
-pub demand3 : Demand3
-demand3 = record { recovered = recovered; overrun = overrun }
 
 -- Clocks and reads break nothing.
 abbrev harmless : List Step → Bool
@@ -51,7 +43,7 @@ recovers =
       unbroken = unbroken quiet (run before resetSci) refl;
       ones = tt;
       enough = omega arith;
-      clear = refl
+      clear = refl;
     }
 
 compared : Compared (rate ∷ []) enable (samples resyncSamples true)
@@ -63,7 +55,7 @@ compared =
       awake = refl;
       unbroken = unbroken (samples resyncSamples true) (step enable (step rate resetSci)) refl;
       ones = tt;
-      enough = omega arith
+      enough = omega arith;
     }
 
 pub met : Met
@@ -77,5 +69,5 @@ met =
       unbroken′ = unbroken later waiting refl;
       alike = refl;
       delivers = refl;
-      loses = refl
+      loses = refl;
     }

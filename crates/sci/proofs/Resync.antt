@@ -1,18 +1,18 @@
 -- The first half of demand 3, of the receiver. Ones lead both receivers to the same state of their lines; the one compared with never has
 -- a flag, as no frame ends in it; so they are alike.
 use mathlib.Core.Path.{_≡_, refl, ap, sym, subst, _∙_}
-use mathlib.Core.Bool.{Bool, true, false, cond, not, _&&_, _||_, true≢false, false≢true}
+use mathlib.Core.Bool.{Bool, true, false, not, _&&_, _||_, true≢false}
 use mathlib.Core.List.{List, [], _∷_}
-use Prim.Native.Nat.{ℕ, zero, suc, _+_, _≤_, _<_}
+use Prim.Native.Nat.{ℕ, _+_, _≤_}
 use native.Mathlib.Omega.{arith}
-use Rattle.sci.specs.Flags.{flag, receiveFlags, contains, common, RDRF, OR, IDLE, RAF}
+use Rattle.sci.specs.Flags.{flag, receiveFlags, contains, common, RDRF, RAF}
 use Rattle.sci.specs.Members.{member}
-use Rattle.sci.specs.Status.{has, raiseIf, fall, fallIf, markSeen, fallSeen}
-use Rattle.sci.specs.Control.{PT, PE, M, bitsOf, settings, frameSamples}
+use Rattle.sci.specs.Status.{has, raiseIf, fall, markSeen, fallSeen}
+use Rattle.sci.specs.Control.{PT, PE, M, bitsOf, settings}
 use Rattle.sci.specs.Framer.{searching, ends, frameOf, framed}
 use Rattle.sci.specs.Bits.{parityBit}
-use Rattle.sci.specs.Receiver.{startState, three, takes, full, outcome, entered, statusAfter, receiverAfter, received}
-use Rattle.sci.specs.Line.{Op, sample, read, act, acts, readStatus, shown, noFlag, watch, Ones, samplesIn, resyncSamples}
+use Rattle.sci.specs.Receiver.{three, takes, full, outcome, entered, statusAfter, receiverAfter, received}
+use Rattle.sci.specs.Line.{Op, sample, read, act, acts, readStatus, shown, noFlag, Ones, samplesIn, resyncSamples}
 use Rattle.sci.specs.Sound.{Sound}
 use Rattle.sci.specs.Alike.{Same, line, Alike}
 use Rattle.sci.specs.Resync.{Started, Quiet, Waited, Resynchronised}
@@ -24,10 +24,10 @@ use Rattle.sci.specs.declared.receiver.Outcome.{Outcome}
 use Rattle.sci.specs.declared.receiver.Received.{Received}
 use Rattle.sci.proofs.Flagged.{isSet, isMarked, has-flag}
 use Rattle.sci.proofs.Marks.{at, all}
-use Rattle.sci.proofs.View.{Receives, same-from, same-refl, same-sym, same-trans, same-read, same-has, outside-raiseIf, outside-fallIf, none-set, none-marked}
+use Rattle.sci.proofs.Same.{same-from, same-read, outside-fallIf, none-set, none-marked}
 use Rattle.sci.proofs.Settings.{same-bits}
-use Rattle.sci.proofs.Likeness.{alike-watch}
-use Rattle.sci.proofs.Invariant.{sound-start, sound-acts}
+use Rattle.sci.proofs.Alike.{alike-watch}
+use Rattle.sci.proofs.Sound.{sound-start, sound-acts}
 use Rattle.sci.proofs.Progress.{progress-start, progress-acts, settled, settles}
 
 few : (m : Bool) → bitsOf m ≤ 9
@@ -103,14 +103,14 @@ waiting-one sccr1 p w =
     let t : o .taken ≡ false = and-first-false (ends (r .framer)) (takes r sccr1 (r .framer .shift)) (ap ends (w .framer)) in
     record {
       framer =
-        ap (λ (f : Framer). framed (bitsOf (M sccr1)) f (three r) true) (w .framer) ∙ still-searching (bitsOf (M sccr1)) (three r);
+          ap (λ (f : Framer). framed (bitsOf (M sccr1)) f (three r) true) (w .framer) ∙ still-searching (bitsOf (M sccr1)) (three r);
       since = calm-since (o .reached) (o .taken) (o .lost) (r .since) t (w .since);
       clear =
-        same-clear (p .status) _
-        (calm-status (p .status) o (frameOf (r .framer) true) (PE sccr1 && parityBit (PT sccr1) (r .framer .shift))
-        (o .reached && not (r .asleep) && r .since) (and-false (not (r .framer .framing) && three r)) t
-        (and-first-false (o .taken) (full (p .status)) t) (calm-idles (o .reached) (r .asleep) (r .since) (w .since)))
-        (w .clear)
+          same-clear (p .status) _
+          (calm-status (p .status) o (frameOf (r .framer) true) (PE sccr1 && parityBit (PT sccr1) (r .framer .shift))
+          (o .reached && not (r .asleep) && r .since) (and-false (not (r .framer .framing) && three r)) t
+          (and-first-false (o .taken) (full (p .status)) t) (calm-idles (o .reached) (r .asleep) (r .since) (w .since)))
+          (w .clear);
     }
 
 waiting-read : (sccr1 : ℕ) (scsr scdr : Bool) (p : Received) → Waiting p → Waiting (act sccr1 (read scsr scdr) p)
@@ -133,7 +133,7 @@ started-waiting q s =
     record {
       framer = ap (λ (r : Receiver). r .framer) (s .start);
       since = ap (λ (r : Receiver). r .since) (s .start);
-      clear = record { unset = s .unset; unseen = s .unseen }
+      clear = record { unset = s .unset; unseen = s .unseen };
     }
 
 clear-marks : (s : Status) → Clear s → contains (s .flags) (common (s .seen) receiveFlags) ≡ true
@@ -150,13 +150,13 @@ sound-clear n p i e =
     record {
       unset = e;
       unseen =
-        same-from (p .status) nothing
-        (λ k h. none-set (p .status) e k h ∙ sym (none-set nothing (clear-nothing .unset) k h))
-        (λ k h.
+          same-from (p .status) nothing
+          (λ k h. none-set (p .status) e k h ∙ sym (none-set nothing (clear-nothing .unset) k h))
+          (λ k h.
           off (isMarked k (p .status)) (isSet k (p .status)) (at (p .status) (i .marks) k h) (none-set (p .status) e k h)
           ∙ sym (none-marked nothing (clear-nothing .unseen) k h))
-        .seen
-        ∙ clear-nothing .unseen
+          .seen
+          ∙ clear-nothing .unseen;
     }
   where
     off : (m s : Bool) → (m ≡ true → s ≡ true) → s ≡ false → m ≡ false
@@ -180,7 +180,7 @@ clear-alike p q e c d =
     record {
       lines = e;
       same = clear-same (p .status) (q .status) c d;
-      words = λ h. absurd (no-word (p .status) c h)
+      words = λ h. absurd (no-word (p .status) c h);
     }
 
 read-line : (sccr1 : ℕ) (scsr scdr : Bool) (p : Received) → line (act sccr1 (read scsr scdr) p .receiver) ≡ line (p .receiver)

@@ -1,10 +1,10 @@
 -- What a list of marks says by an automaton of two bools. `owed`: a loss raised OR and no status read came since. `open`: a run of losses
 -- is open.
 use mathlib.Core.Path.{_≡_, refl, ap, sym, subst, _∙_}
-use mathlib.Core.Bool.{Bool, true, false, not, _&&_, _||_, true≢false, false≢true}
+use mathlib.Core.Bool.{Bool, true, false, _||_, true≢false, false≢true}
 use mathlib.Core.List.{List, [], _∷_, _++_, append-assoc}
 use Prim.Native.Nat.{ℕ}
-use Rattle.sci.specs.Overrun.{Mark, frameLost, wordCame, statusRead, wordDelivered, wasReset, hasReset, hasStatusRead, oneRun, openRun, ReadSince, Overrun}
+use Rattle.sci.specs.Overrun.{Mark, frameLost, wordCame, statusRead, wordDelivered, wasReset, hasReset, hasStatusRead, oneRun, openRun, Overrun}
 
 -- The first loss of a run raises OR; with a debt no word comes.
 abbrev pub Okay : Bool → Bool → List Mark → Type 0
@@ -60,7 +60,7 @@ further m opn opn′ past f b =
       run = b .run;
       raised = ap (λ (h : List Mark). m ∷ h) (b .raised);
       first = f (b .before) ∙ b .first;
-      one = b .one
+      one = b .one;
     }
 
 find : {X : Type 0} (a h : List Mark) (raises owed opn : Bool) → Okay owed opn (a ++ (frameLost raises ∷ h)) →
@@ -73,21 +73,21 @@ find [] h raises owed false k f g =
       run = [];
       raised = ap (λ (r : Bool). frameLost r ∷ []) (k .0 refl);
       first = refl;
-      one = refl
+      one = refl;
     })
 find (frameLost r ∷ a) h raises owed true k f g =
     find a h raises (r || owed) true (k .1) (λ b. f (further (frameLost r) true true _ (λ h. refl) b)) g
 find (frameLost r ∷ a) h raises owed false k f g =
     find a h raises (r || owed) true (k .1) (λ b. f (further (frameLost r) false true _ (λ h. refl) b))
     (λ e o.
-      f
-      (record {
-        before = [];
-        run = a ++ (frameLost raises ∷ []);
-        raised = ap (λ (q : Bool). frameLost q ∷ (a ++ (frameLost raises ∷ []))) (k .0 refl);
-        first = refl;
-        one = run-on a raises o
-      }))
+    f
+    (record {
+      before = [];
+      run = a ++ (frameLost raises ∷ []);
+      raised = ap (λ (q : Bool). frameLost q ∷ (a ++ (frameLost raises ∷ []))) (k .0 refl);
+      first = refl;
+      one = run-on a raises o;
+    }))
 find (wordCame w ∷ a) h raises owed opn k f g =
     find a h raises owed false (k .1) (λ b. f (further (wordCame w) opn false _ (λ h. refl) b)) (λ e o. absurd (false≢true e))
 find (statusRead ∷ a) h raises owed opn k f g =
@@ -112,20 +112,20 @@ overrun-of h k a b c d raises w v e nb nc =
     let k₁ : Okay false false (a ++ (frameLost raises ∷ rest)) = subst (Okay false false) e k in
     find a rest raises false false k₁
     (λ g.
-      let split : a ++ (frameLost raises ∷ rest) ≡ g .before ++ (frameLost true ∷ ((g .run ++ b) ++ (wordCame w ∷ (c ++ (wordDelivered v ∷ d))))) =
-        sym (append-assoc a (frameLost raises ∷ []) rest)
-        ∙ ap (λ (l : List Mark). l ++ rest) (g .raised)
-        ∙ append-assoc (g .before) (frameLost true ∷ g .run) rest
-        ∙ ap (λ (l : List Mark). g .before ++ (frameLost true ∷ l)) (sym (append-assoc (g .run) b (wordCame w ∷ (c ++ (wordDelivered v ∷ d))))) in
-      record {
-        before = g .before;
-        run = g .run;
-        raised = g .raised;
-        first = g .first;
-        one = g .one;
-        looked =
+    let split : a ++ (frameLost raises ∷ rest) ≡ g .before ++ (frameLost true ∷ ((g .run ++ b) ++ (wordCame w ∷ (c ++ (wordDelivered v ∷ d))))) =
+    sym (append-assoc a (frameLost raises ∷ []) rest)
+    ∙ ap (λ (l : List Mark). l ++ rest) (g .raised)
+    ∙ append-assoc (g .before) (frameLost true ∷ g .run) rest
+    ∙ ap (λ (l : List Mark). g .before ++ (frameLost true ∷ l)) (sym (append-assoc (g .run) b (wordCame w ∷ (c ++ (wordDelivered v ∷ d))))) in
+    record {
+      before = g .before;
+      run = g .run;
+      raised = g .raised;
+      first = g .first;
+      one = g .one;
+      looked =
           ap hasStatusRead (sym (append-assoc (g .run) b c))
           ∙ waits (g .before) (g .run ++ b) c (c ++ (wordDelivered v ∷ d)) w false false (subst (Okay false false) split k₁)
-            (no-reset (g .run) b (g .one) nb)
-      })
+          (no-reset (g .run) b (g .one) nb);
+    })
     (λ q o. absurd (false≢true q))

@@ -2,16 +2,15 @@
 use mathlib.Core.Path.{_≡_, refl, ap, sym, subst, _∙_}
 use mathlib.Core.Bool.{Bool, true, false, cond, not, _&&_, _||_, true≢false, false≢true}
 use mathlib.Core.List.{List, [], _∷_}
-use mathlib.Core.Option.{Option}
-use Prim.Native.Nat.{ℕ, _^_}
-use Rattle.sci.specs.Flags.{RDRF, OR, IDLE, RAF, flag, receiveFlags}
+use Prim.Native.Nat.{ℕ}
+use Rattle.sci.specs.Flags.{RDRF, OR, IDLE, RAF, receiveFlags}
 use Rattle.sci.specs.Members.{member}
 use Rattle.sci.specs.Status.{has, raiseIf, fallIf}
-use Rattle.sci.specs.Control.{PT, PE, M, WAKE, settings}
+use Rattle.sci.specs.Control.{PT, PE, settings}
 use Rattle.sci.specs.Bits.{parityBit}
 use Rattle.sci.specs.Framer.{frameOf}
-use Rattle.sci.specs.Receiver.{full, outcome, raised, entered, statusAfter, receiverAfter, received}
-use Rattle.sci.specs.Line.{Op, sample, read, act, acts, looked, fetched, readStatus, freshIf, delivers, shown, Seen, seenAt, watch}
+use Rattle.sci.specs.Receiver.{outcome, entered, statusAfter, receiverAfter, received}
+use Rattle.sci.specs.Line.{Op, sample, read, act, acts, looked, fetched, readStatus, freshIf, delivers, watch}
 use Rattle.sci.specs.Alike.{Same, line, Alike}
 use Rattle.sci.specs.declared.flags.Flags.{Flags}
 use Rattle.sci.specs.declared.status.Status.{Status}
@@ -20,7 +19,7 @@ use Rattle.sci.specs.declared.receiver.Receiver.{Receiver}
 use Rattle.sci.specs.declared.receiver.Outcome.{Outcome}
 use Rattle.sci.specs.declared.receiver.Received.{Received}
 use Rattle.sci.proofs.Flagged.{isSet, has-flag, set-raiseIf, set-fallIf, set-markSeen, set-fallSeen}
-use Rattle.sci.proofs.View.{same-refl, same-sym, same-trans, same-has, same-after, same-read}
+use Rattle.sci.proofs.Same.{same-refl, same-sym, same-trans, same-has, same-after, same-read}
 use Rattle.sci.proofs.Settings.{act-settings}
 
 pub alike-refl : (p : Received) → Alike p p
@@ -39,7 +38,7 @@ alike-sym p q a =
     record {
       lines = sym (a .lines);
       same = same-sym (p .status) (q .status) (a .same);
-      words = λ e. sym (a .words (rdrf-same (p .status) (q .status) (a .same) ∙ e))
+      words = λ e. sym (a .words (rdrf-same (p .status) (q .status) (a .same) ∙ e));
     }
 
 pub alike-trans : (p q r : Received) → Alike p q → Alike q r → Alike p r
@@ -47,7 +46,7 @@ alike-trans p q r a b =
     record {
       lines = a .lines ∙ b .lines;
       same = same-trans (p .status) (q .status) (r .status) (a .same) (b .same);
-      words = λ e. a .words e ∙ b .words (sym (rdrf-same (p .status) (q .status) (a .same)) ∙ e)
+      words = λ e. a .words e ∙ b .words (sym (rdrf-same (p .status) (q .status) (a .same)) ∙ e);
     }
 
 -- What the transmitter does to the status leaves the receiver alike.
@@ -149,10 +148,10 @@ module _ (sccr1 : ℕ) (x : Bool) where
       let e : o ≡ o′ = same-outcome p q a in
       record {
         lines =
-          after-line (p .receiver) o ∙ (λ j. line (receiverAfter (a .lines j) (e j) sccr1 x))
-          ∙ sym (after-line (q .receiver) o′);
+            after-line (p .receiver) o ∙ (λ j. line (receiverAfter (a .lines j) (e j) sccr1 x))
+            ∙ sym (after-line (q .receiver) o′);
         same = same-status p q o o′ a e;
-        words = λ h. same-word p q o o′ _ _ _ a e h
+        words = λ h. same-word p q o o′ _ _ _ a e h;
       }
 
 -- A read raises no flag.
@@ -181,7 +180,7 @@ alike-read sccr1 scsr scdr p q a =
     record {
       lines = a .lines;
       same = same-read scsr scdr (p .status) (q .status) (a .same);
-      words = λ e. a .words (rdrf-read scsr scdr (p .status) e)
+      words = λ e. a .words (rdrf-read scsr scdr (p .status) e);
     }
 
 alike-act-one : (sccr1 : ℕ) (o : Op) (p q : Received) → Alike p q → Alike (act sccr1 o p) (act sccr1 o q)
@@ -198,9 +197,11 @@ alike-delivers (sample x) p q a = refl
 alike-delivers (read scsr scdr) p q a =
     fresh-same (has (p .status) RDRF) (not (has (readStatus scsr scdr (p .status)) RDRF)) (p .receiver .scdr)
     (q .receiver .scdr) (a .words)
-    ∙ rw (rdrf-same (p .status) (q .status) (a .same),
-          rdrf-same (readStatus scsr scdr (p .status)) (readStatus scsr scdr (q .status))
-          (same-read scsr scdr (p .status) (q .status) (a .same)))
+    ∙ rw (
+      rdrf-same (p .status) (q .status) (a .same),
+      rdrf-same (readStatus scsr scdr (p .status)) (readStatus scsr scdr (q .status))
+          (same-read scsr scdr (p .status) (q .status) (a .same)),
+    )
 
 module _ (a b : ℕ) (e : settings a ≡ settings b) where
   pub alike-act : (o : Op) (p q : Received) → Alike p q → Alike (act a o p) (act b o q)

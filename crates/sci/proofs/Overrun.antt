@@ -1,5 +1,5 @@
 -- Demand 3, second half, of the serial half: the automaton of the marks is tied to OR and its mark, step by step.
-use mathlib.Core.Path.{_≡_, refl, ap, sym, subst, _∙_}
+use mathlib.Core.Path.{_≡_, refl, sym, subst, _∙_}
 use mathlib.Core.Bool.{Bool, true, false, cond, not, _&&_, _||_, true≢false, false≢true}
 use mathlib.Core.List.{List, [], _∷_, _++_}
 use mathlib.Core.Option.{Option, none, some}
@@ -8,29 +8,26 @@ use lib.Dec.{eqb}
 use Rattle.steps.specs.Bits.{merge}
 use Rattle.sci.specs.Flags.{PF, FE, NF, OR, IDLE, RAF, RDRF, receiveFlags, transmitFlags}
 use Rattle.sci.specs.Members.{member}
-use Rattle.sci.specs.Status.{has, raise, raiseIf, fall, fallIf, markSeen, fallSeen}
-use Rattle.sci.specs.Control.{RE, PE, PT, sccr0Bits}
-use Rattle.sci.specs.Bits.{parityBit}
-use Rattle.sci.specs.Framer.{ends, frameOf}
-use Rattle.sci.specs.Receiver.{takes, full, outcome, raised, entered, statusAfter, received}
+use Rattle.sci.specs.Status.{has, raiseIf, fall, markSeen, fallSeen}
+use Rattle.sci.specs.Control.{RE, sccr0Bits}
+use Rattle.sci.specs.Receiver.{full, outcome, raised, entered, statusAfter, received}
 use Rattle.sci.specs.Transmitter.{sent}
-use Rattle.sci.specs.Line.{read, looked, fetched, readStatus, delivers}
+use Rattle.sci.specs.Line.{read, readStatus, delivers}
 use Rattle.sci.specs.Alike.{Same}
 use Rattle.sci.specs.Serial.{resetSci, active, due, sccr1Word, dataWritten, wroteSccr0, wroteSccr1, sccr0Guarded, sccr1Guarded, stopped, withSccr1}
-use Rattle.sci.specs.History.{Step, reset, clock, reads, writesSccr0, writesSccr1, writesScdr, step, run, receiving, sampling}
-use Rattle.sci.specs.Overrun.{Mark, frameLost, wordCame, statusRead, wordDelivered, wasReset, takenMarks, sampleMarks, lookMarks, deliveryMarks, stepMarks, log, Overrun}
-use Rattle.sci.specs.declared.flags.Flags.{Flags}
+use Rattle.sci.specs.History.{Step, reset, clock, reads, writesSccr0, writesSccr1, writesScdr, step, receiving}
+use Rattle.sci.specs.Overrun.{Mark, frameLost, wordCame, sampleMarks, lookMarks, deliveryMarks, stepMarks, log, Overrun}
 use Rattle.sci.specs.declared.status.Status.{Status}
 use Rattle.sci.specs.declared.framer.Frame.{Frame}
 use Rattle.sci.specs.declared.receiver.Receiver.{Receiver}
 use Rattle.sci.specs.declared.receiver.Outcome.{Outcome}
 use Rattle.sci.specs.declared.serial.Sci.{Sci}
-use Rattle.sci.proofs.Flagged.{isSet, isMarked, has-flag, set-raise, marked-raise, set-raiseIf, marked-raiseIf, set-fallIf, marked-fallIf, set-markSeen, marked-markSeen, set-fallSeen, marked-fallSeen}
-use Rattle.sci.proofs.View.{set-at, marked-at, same-sent, same-loaded, outside-fall}
+use Rattle.sci.proofs.Flagged.{isSet, isMarked, has-flag, set-raise, marked-raise, set-raiseIf, marked-raiseIf, marked-fallIf, set-markSeen, marked-markSeen, set-fallSeen, marked-fallSeen}
+use Rattle.sci.proofs.Same.{set-at, marked-at, same-sent, same-loaded, outside-fall}
 use Rattle.sci.proofs.Frames.{by-cond}
-use Rattle.sci.proofs.Likeness.{set-raise-other, set-fall-other}
-use Rattle.sci.proofs.Serve.{turned, clock-turned}
-use Rattle.sci.proofs.Marking.{Okay, overrun-of}
+use Rattle.sci.proofs.Alike.{set-raise-other, set-fall-other}
+use Rattle.sci.proofs.Reachable.{turned, clock-turned}
+use Rattle.sci.proofs.Automaton.{Okay, overrun-of}
 
 -- OR by two bools: `or`, whether it is set, and `seen`, whether it is marked.
 pub record Tied (or seen owed opn : Bool) : Type 0 where
@@ -130,20 +127,23 @@ mark-after s o f bad idles =
 okay-taken : (lost taken or seen owed opn : Bool) (w : ℕ) (h : List Mark) → Tied or seen owed opn →
     (taken ≡ true → lost ≡ false → or ≡ false) → ((o p : Bool) → Tied (or || (lost && true)) seen o p → Okay o p h) →
     Okay owed opn (cond lost (frameLost (not or) ∷ []) (cond taken (wordCame w ∷ []) []) ++ h)
-okay-taken true taken true seen owed opn w h d f k =
-    ( λ e. absurd (true≢false (sym (d .lit refl) ∙ e))
-    , k owed true (record { hot = d .hot; lit = λ e. refl; sub = λ e. refl }) )
-okay-taken true taken false seen owed opn w h d f k =
-    ( λ e. refl
-    , k true true (record { hot = λ e. (refl, off seen (d .sub)); lit = λ e. refl; sub = λ e. refl }) )
+okay-taken true taken true seen owed opn w h d f k = (
+  λ e. absurd (true≢false (sym (d .lit refl) ∙ e)),
+  k owed true (record { hot = d .hot; lit = λ e. refl; sub = λ e. refl }),
+)
+okay-taken true taken false seen owed opn w h d f k = (
+  λ e. refl,
+  k true true (record { hot = λ e. (refl, off seen (d .sub)); lit = λ e. refl; sub = λ e. refl }),
+)
   where
     off : (seen : Bool) → (seen ≡ true → false ≡ true) → seen ≡ false
     off true g = absurd (false≢true (g refl))
     off false g = refl
 okay-taken false true true seen owed opn w h d f k = absurd (true≢false (f refl refl))
-okay-taken false true false seen owed opn w h d f k =
-    ( free owed (d .hot)
-    , k owed false (record { hot = d .hot; lit = λ e. absurd (false≢true e); sub = d .sub }) )
+okay-taken false true false seen owed opn w h d f k = (
+  free owed (d .hot),
+  k owed false (record { hot = d .hot; lit = λ e. absurd (false≢true e); sub = d .sub }),
+)
   where
     free : (owed : Bool) → (owed ≡ true → (false ≡ true) × (seen ≡ false)) → owed ≡ false
     free true g = absurd (false≢true (g refl .0))
@@ -173,9 +173,9 @@ okay-sample s t x h owed opn d k =
     (okay-taken (o .lost) (o .taken) (isSet 3 t) (isMarked 3 t) owed opn (r .framer .shift % 512) h d
     (λ a b. sym (has-flag 3 t) ∙ not-full (o .taken) (has t RDRF) (has t OR) a (sym (lost-full r t (s .sccr1) x) ∙ b))
     (λ a b c.
-      k a b
-      (subst (λ (z : Bool). Tied z (isMarked 3 (received r t (s .sccr1) x .status)) a b) (sym (or-after t o _ _ _))
-      (subst (λ (z : Bool). Tied (isSet 3 t || (o .lost && true)) z a b) (sym (mark-after t o _ _ _)) c))))
+    k a b
+    (subst (λ (z : Bool). Tied z (isMarked 3 (received r t (s .sccr1) x .status)) a b) (sym (or-after t o _ _ _))
+    (subst (λ (z : Bool). Tied (isSet 3 t || (o .lost && true)) z a b) (sym (mark-after t o _ _ _)) c))))
 
 okay-turned : (a d on : Bool) (s : Sci) (x : Bool) (h : List Mark) (owed opn : Bool) → TiedTo (s .status) owed opn →
     ((o p : Bool) → TiedTo (turned a d on s x .status) o p → Okay o p h) →

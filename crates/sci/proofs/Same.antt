@@ -1,11 +1,8 @@
 -- Equal receive flags and marks stay equal, and the flags of the transmitter and RAF are no part of them.
 use mathlib.Core.Path.{_≡_, refl, ap, sym, _∙_}
-use mathlib.Core.Bool.{Bool, true, false, cond, not, _&&_, _||_, true≢false, false≢true}
-use Prim.Native.Nat.{ℕ, _+_, _/_, _%_, _^_, _≤_}
-use native.Mathlib.Omega.{arith}
+use mathlib.Core.Bool.{Bool, true, false, not, _&&_, _||_, true≢false, false≢true}
+use Prim.Native.Nat.{ℕ, _^_}
 use native.Mathlib.Nat.{zero-div}
-use lib.Dec.{eqb}
-use borrow.Author.Tests.{eqb-true}
 use Rattle.sci.specs.Flags.{flag, TC, TDRE, receiveFlags, transmitFlags, common}
 use Rattle.sci.specs.Members.{member}
 use Rattle.sci.specs.Status.{has, raise, raiseIf, fall, fallIf, markSeen, fallSeen}
