@@ -2,13 +2,17 @@
 use mathlib.Core.Path.{_≡_, refl, ap, sym, _∙_}
 use mathlib.Core.Bool.{Bool, true, false}
 use mathlib.Core.List.{List, [], _∷_, _++_, append-assoc}
-use Prim.Native.Nat.{ℕ, zero, suc}
+use Prim.Native.Nat.{ℕ, zero, suc, _%_}
+use native.Mathlib.Omega.{arith}
+use lib.Bits.{bitAnd, and-mod, and-le-r}
 use lib.ListN.{replicate}
 use Rattle.steps.specs.Iterate.{iterate}
-use Rattle.sci.specs.Line.{Op, Seen}
-use Rattle.sci.specs.Serial.{clocked}
+use Rattle.sci.specs.Flags.{flag}
+use Rattle.sci.specs.Line.{Op, shown, Seen}
+use Rattle.sci.specs.Serial.{clocked, statusRead, dataRead, wroteSccr0, wroteSccr1, sccr0Guarded, sccr1Guarded}
 use Rattle.sci.specs.History.{Step, reset, clock, reads, writesSccr0, writesSccr1, writesScdr, step, run, sampling, stepOps, ops, seenIf, stepSeen, watched, Unbroken}
 use Rattle.sci.specs.Overrun.{Mark, stepMarks, log}
+use Rattle.sci.specs.declared.status.Status.{Status}
 use Rattle.sci.specs.declared.serial.Sci.{Sci}
 
 pub run-append : (es fs : List Step) (s : Sci) → run (es ++ fs) s ≡ run fs (run es s)
@@ -72,3 +76,37 @@ pub run-clocks : (n : ℕ) (x : Bool) (s : Sci) → run (clocks n x) s ≡ itera
 unfolding run step iterate
 run-clocks zero x s = refl
 run-clocks (suc n) x s = run-clocks n x (clocked s x) ∙ iterate-inner n x s
+
+-- The accesses by the functions that do them.
+pub reads-status : (s : Sci) → step (reads true false) s ≡ statusRead s
+unfolding step
+reads-status s = refl
+
+pub reads-data : (s : Sci) → step (reads false true) s ≡ dataRead s
+unfolding step
+reads-data s = refl
+
+pub reads-both : (s : Sci) → step (reads true true) s ≡ dataRead (statusRead s)
+unfolding step
+reads-both s = refl
+
+pub reads-neither : (s : Sci) → step (reads false false) s ≡ s
+unfolding step
+reads-neither s = refl
+
+pub writes-sccr0 : (s : Sci) (v : ℕ) (upper lower : Bool) → sccr0Guarded s v upper lower ≡ false →
+    step (writesSccr0 v upper lower) s ≡ wroteSccr0 s v upper lower
+unfolding step
+writes-sccr0 s v upper lower e = rw e
+
+pub writes-sccr1 : (s : Sci) (v : ℕ) (upper lower : Bool) → sccr1Guarded s v upper lower ≡ false →
+    step (writesSccr1 v upper lower) s ≡ wroteSccr1 s v upper lower
+unfolding step
+writes-sccr1 s v upper lower e = rw e
+
+-- SCSR's low byte has all the receive flags.
+pub shown-byte : (s : Status) → flag (bitAnd (s .flags .bits % 256) 95) ≡ shown s
+shown-byte s =
+    let m : bitAnd (s .flags .bits) 95 % 256 ≡ bitAnd (s .flags .bits % 256) 95 = and-mod (s .flags .bits) 95 8 in
+    let e : bitAnd (s .flags .bits % 256) 95 ≡ bitAnd (s .flags .bits) 95 = omega (arith, and-le-r (s .flags .bits) 95) in
+    ap flag e
