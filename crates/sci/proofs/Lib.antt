@@ -16,3 +16,4 @@ pub mod Overrun
 pub mod Witness
 pub mod History
 pub mod Demand3
+pub mod Lift
