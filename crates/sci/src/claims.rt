@@ -1,0 +1,21 @@
+// Claims about the definitions, each held by a contract.
+ghost use Rattle.sci.specs.declared.flags.Flags.{Flags};
+ghost use Rattle.sci.specs.Members.{Membership};
+ghost use Rattle.sci.specs.Resync.{Resynchronised};
+ghost use Rattle.sci.specs.Demand3.{Demand3};
+ghost use Rattle.sci.specs.Witness.{Met};
+
+// The laws of membership of the flag set.
+fn membership() -> bool
+    ensures { λ r. ⌜ ((a b : Flags) → Membership a b) ⌝ }
+{
+    true
+}
+
+// Demand 3, of the receiver and of every history of the serial half; and histories that meet its hypotheses.
+// Ruled out: a receiver that keeps a trace of its past; one that delivers past an unseen loss; one that takes one frame and no more.
+fn demand3() -> bool
+    ensures { λ r. ⌜ Resynchronised × Demand3 × Met ⌝ }
+{
+    true
+}
