@@ -83,3 +83,12 @@ in-parts m t u room z =
     let all : unread o t ≡ [] = drop-of-length-le t {i = length (flatten (o .records))} (omega (arith, ap length (read-to-the-end m t room z))) in
     ap (play m (t ++ u)) (omega (arith, answers-fit m t room)) ∙ resumes m t u room (room - length (o .answers))
     ∙ ap (λ (l : List ℕ). followed o (play (o .state) (l ++ u) (room - length (o .answers)))) all
+
+-- The bounds that a caller needs of what was read and written.
+pub read-within : (m : Module) (t : List ℕ) (room : ℕ) → length (flatten (play m t room .records)) ≤ length t
+read-within m t room =
+    let o = play m t room in
+    omega (arith, ap length (records-read m t room), length-append (flatten (o .records)) (unread o t))
+
+pub written-within : (m : Module) (t : List ℕ) (room : ℕ) → answerLength * length (play m t room .records) ≤ room
+written-within m t room = omega (arith, ten-bytes-each m t room, answers-fit m t room)

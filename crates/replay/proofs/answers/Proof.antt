@@ -1,0 +1,12 @@
+-- The length by a law: counting out the array takes a gigabyte.
+use mathlib.Core.Path.{sym}
+use Prim.Native.Nat.{ℕ}
+use lib.ListN.{length-replicate}
+use Rattle.replay.proofs.answers.Statement.{statement}
+use Rattle.replay.proofs.answers.Tie as tie
+
+returns : tie.Need-returns
+returns c = sym (length-replicate {A = ℕ} 655360 0)
+
+pub answers-spec : {M : Type 1} → statement M
+answers-spec = tie.close (tie.spec returns)

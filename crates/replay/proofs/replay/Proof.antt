@@ -1,0 +1,57 @@
+use mathlib.Core.Path.{_≡_, sym}
+use Prim.Native.Nat.{_≤_}
+use native.Mathlib.Omega.{arith}
+use borrow.Author.Needs.{needs}
+use lib.ListN.{length}
+use Rattle.replay.proofs.replay.Statement.{statement}
+use Rattle.replay.proofs.replay.Tie as tie
+
+abbrev Inv-loop : tie.InvT-loop
+Inv-loop fd buf₀ out₀ run₀ turns₀ buf out run turns = (length buf ≡ 65536) × (length out ≡ 655360) × (run .have ≤ 65536)
+
+abbrev μ-loop : tie.MeasureT-loop
+μ-loop fd buf₀ out₀ run₀ turns₀ buf out run turns = turns
+
+large-buffer-requires : tie.Need-large-buffer-requires Inv-loop μ-loop
+large-buffer-requires c κs = tt
+
+answers-requires : tie.Need-answers-requires Inv-loop μ-loop
+answers-requires c κs = tt
+
+reset-requires : tie.Need-reset-requires Inv-loop μ-loop
+reset-requires c κs = tt
+
+loop-holds : tie.Need-loop-holds Inv-loop μ-loop
+loop-holds c = (sym (c .before .before .large-buffer .ensures), sym (c .before .answers .ensures), omega arith)
+
+returns : tie.Need-returns Inv-loop μ-loop
+returns c = tt
+
+sub-turns : tie.Need-sub-turns Inv-loop μ-loop
+sub-turns c = omega arith
+
+loop-less : tie.Need-loop-less Inv-loop μ-loop
+loop-less c = omega arith
+
+returns-2 : tie.Need-returns-2 Inv-loop μ-loop
+returns-2 c = tt
+
+pub replay-spec : {M : Type 1} → statement M
+replay-spec =
+    tie.close
+    (tie.spec
+    Inv-loop
+    μ-loop
+    large-buffer-requires
+    answers-requires
+    reset-requires
+    loop-holds
+    (λ c. search needs)
+    (λ c. search needs)
+    (λ c κs. search needs)
+    (λ c. search needs)
+    returns
+    sub-turns
+    loop-less
+    (λ c. search needs)
+    returns-2)
