@@ -1,11 +1,12 @@
 // Plays a trace on a module fresh from reset: from a file or from standard input, of any length, to a log on standard output.
 ghost use mathlib.Core.Path.{_≡_};
+ghost use mathlib.Core.Bool.{cond};
 ghost use mathlib.Core.List.{_++_};
-ghost use Prim.Native.Nat.{_+_, _≤_, _^_, _-_, min};
+ghost use Prim.Native.Nat.{_+_, _≤_};
 ghost use lib.ListN.{length, take, drop};
 ghost use Rattle.io.specs.Counts.{Counts};
 ghost use Rattle.trace.specs.Play.{play, Plays};
-ghost use Rattle.replay.specs.Next.{afterStop};
+ghost use Rattle.replay.specs.Run.{counted, afterStop, Advances};
 use libc::STDERR_FILENO;
 use libc::STDIN_FILENO;
 use libc::STDOUT_FILENO;
@@ -36,6 +37,12 @@ enum Next {
 struct Turned {
     run: Run,
     next: Next,
+}
+
+struct Advanced {
+    run: Run,
+    written: usize,
+    stop: Stop,
 }
 
 struct Filled {
@@ -72,15 +79,6 @@ fn fill(fd: i32, buf: &mut [u8], have: usize, ended: bool) -> Filled
     }
 }
 
-// Plays the first bytes of the buffer.
-fn pass(m: Module, buf: &[u8], total: usize, out: &mut [u8]) -> Played
-    requires { ⌜ total ≤ length (now buf) ⌝ }
-    ensures { λ r. ⌜ (r .read ≤ total) × Counts (r .written) (now (out .exit)) ⌝ }
-    ensures { λ r. ⌜ Plays (play m (take total (now (buf .entry))) (length (now (out .entry)))) (now (out .entry)) r (now (out .exit)) ⌝ }
-{
-    trace::play(m, &buf[..total], out)
-}
-
 // Carries n bytes forward to the start of the buffer.
 fn carry(buf: &mut [u8], from: usize, n: usize)
     requires { ⌜ from + n ≤ length (now buf) ⌝ }
@@ -95,7 +93,7 @@ fn carry(buf: &mut [u8], from: usize, n: usize)
 
 // A count that stays at the largest number.
 fn counted(count: u64, more: usize) -> u64
-    ensures { λ r. ⌜ r ≡ min (count + more) (2 ^ 64 - 1) ⌝ }
+    ensures { λ r. ⌜ r ≡ counted count more ⌝ }
 {
     let n = more as u64;
     if n <= u64::MAX - count {
@@ -105,24 +103,63 @@ fn counted(count: u64, more: usize) -> u64
     }
 }
 
+// What waits for the end of the input.
+fn at_end(ended: bool, next: Next) -> Next
+    ensures { λ r. ⌜ r ≡ cond ended next Next.More ⌝ }
+{
+    if ended { next } else { Next::More }
+}
+
+// Ruled out: a record cut by the end of a buffer that is refused; a full output that stops the trace.
 fn after_stop(stop: Stop, ended: bool) -> Next
     ensures { λ r. ⌜ r ≡ afterStop stop ended ⌝ }
 {
     match stop {
-        Stop::End => { if ended { Next::Done } else { Next::More } }
+        Stop::End => at_end(ended, Next::Done),
         Stop::UnknownKind => Next::Refused(stop),
-        Stop::CutRecord => {
-            if ended {
-                Next::Refused(stop)
-            } else {
-                Next::More
-            }
-        }
+        Stop::CutRecord => at_end(ended, Next::Refused(stop)),
         Stop::NoRoom => Next::More,
     }
 }
 
-// Reads once, plays what is there, writes the answers and keeps the rest.
+// Plays the first bytes of the buffer.
+fn pass(m: Module, buf: &[u8], total: usize, out: &mut [u8]) -> Played
+    requires { ⌜ total ≤ length (now buf) ⌝ }
+    ensures { λ r. ⌜ (r .read ≤ total) × Counts (r .written) (now (out .exit)) ⌝ }
+    ensures { λ r. ⌜ Plays (play m (take total (now (buf .entry))) (length (now (out .entry)))) (now (out .entry)) r (now (out .exit)) ⌝ }
+{
+    trace::play(m, &buf[..total], out)
+}
+
+// Plays the first bytes of the buffer and carries what is left of them forward.
+// Ruled out: a cut record dropped; a record played twice; a wrong number or place.
+fn advance(run: Run, buf: &mut [u8], total: usize, ended: bool, out: &mut [u8]) -> Advanced
+    requires { ⌜ total ≤ length (now buf) ⌝ }
+    ensures { λ r. ⌜ (r .run .have ≤ total) × Counts (r .written) (now (out .exit)) ⌝ }
+    ensures { λ r. ⌜ Advances run (take total (now (buf .entry))) ended (length (now (out .entry))) r (now (buf .exit)) (now (out .exit)) ⌝ }
+{
+    let state = run.state;
+    let p = pass(state, buf, total, out);
+    let read = p.read;
+    let written = p.written;
+    carry(buf, read, total - read);
+    let after = p.state;
+    let stop = p.stop;
+    let next = Run {
+        state: after,
+        records: counted(run.records, written / trace::ANSWER_LENGTH),
+        place: counted(run.place, read),
+        have: total - read,
+        ended,
+    };
+    Advanced {
+        run: next,
+        written,
+        stop,
+    }
+}
+
+// Reads once, plays what is there and writes its answers.
 fn turn(fd: i32, run: Run, buf: &mut [u8], out: &mut [u8]) -> Turned
     requires { ⌜ run .have ≤ length (now buf) ⌝ }
     ensures { λ r. ⌜ r .run .have ≤ length (now (buf .entry)) ⌝ }
@@ -134,28 +171,16 @@ fn turn(fd: i32, run: Run, buf: &mut [u8], out: &mut [u8]) -> Turned
             next: Next::NotRead,
         };
     }
-    let total = f.total;
-    let state = run.state;
-    let p = pass(state, buf, total, out);
-    let read = p.read;
-    let written = p.written;
-    let ok = io::write_all(STDOUT_FILENO, &out[..written]);
-    carry(buf, read, total - read);
-    let after = p.state;
-    let next = Run {
-        state: after,
-        records: counted(run.records, written / trace::ANSWER_LENGTH),
-        place: counted(run.place, read),
-        have: total - read,
-        ended: f.ended,
-    };
-    if !ok {
+    let a = advance(run, buf, f.total, f.ended, out);
+    let written = a.written;
+    let next = a.run;
+    let stop = a.stop;
+    if !io::write_all(STDOUT_FILENO, &out[..written]) {
         return Turned {
             run: next,
             next: Next::NotWritten,
         };
     }
-    let stop = p.stop;
     Turned {
         run: next,
         next: after_stop(stop, f.ended),

@@ -1,8 +1,7 @@
-use mathlib.Core.Path.{sym}
+use mathlib.Core.Path.{_≡_, sym}
 use Prim.Native.Nat.{_≤_}
 use native.Mathlib.Omega.{arith}
 use denote.Ref.{now}
-use mathlib.Core.Path.{_≡_}
 use lib.ListN.{length, take}
 use lib.Seq.{length-take-le}
 use Rattle.trace.proofs.Laws.{read-within, written-within}

@@ -1,0 +1,43 @@
+-- A trace played buffer by buffer. A record cut by the end of a buffer is carried forward; it is refused only at the end of the input.
+use mathlib.Core.Path.{_≡_}
+use mathlib.Core.Bool.{Bool, cond}
+use mathlib.Core.List.{List, flatten}
+use Prim.Native.Nat.{ℕ, _+_, _-_, _^_, min}
+use lib.ListN.{length, take}
+use Rattle.trace.specs.Play.{Outcome, stopNumber, play}
+use Rattle.trace.specs.Laws.{unread}
+use Rattle.trace.specs.declared.Stop.{Stop}
+use Rattle.trace.specs.declared.Stop.the-variants.{End, UnknownKind, CutRecord, NoRoom}
+use Rattle.replay.specs.declared.Run.{Run}
+use Rattle.replay.specs.declared.Next.{Next}
+use Rattle.replay.specs.declared.Next.the-variants.{More, Done, Refused}
+use Rattle.replay.specs.declared.Advanced.{Advanced}
+
+-- A count that stays at the largest number.
+abbrev pub counted : ℕ → ℕ → ℕ
+counted count more = min (count + more) (2 ^ 64 - 1)
+
+-- What follows a buffer. A full output is written, and the trace goes on.
+abbrev pub afterStop : Stop → Bool → Next
+afterStop End ended = cond ended Done More
+afterStop UnknownKind ended = Refused UnknownKind
+afterStop CutRecord ended = cond ended (Refused CutRecord) More
+afterStop NoRoom ended = More
+
+-- A run after the bytes t, of which o was played.
+abbrev pub ran : Run → List ℕ → Bool → Outcome → Run
+ran r t ended o =
+    record {
+      state = o .state;
+      records = counted (r .records) (length (o .records));
+      place = counted (r .place) (length (flatten (o .records)));
+      have = length t - length (flatten (o .records));
+      ended = ended;
+    }
+
+-- What playing the bytes t into so much room leaves: the run, the answers to write, and the rest of t at the start of the buffer.
+pub record Advances (r : Run) (t : List ℕ) (ended : Bool) (room : ℕ) (a : Advanced) (buf out : List ℕ) : Type 0 where
+  pub run : a .run ≡ ran r t ended (play (r .state) t room)
+  pub log : take (a .written) out ≡ play (r .state) t room .answers
+  pub rest : take (a .run .have) buf ≡ unread (play (r .state) t room) t
+  pub stop : stopNumber (a .stop) ≡ play (r .state) t room .stop
