@@ -1,16 +1,16 @@
 -- What playing a buffer and carrying its rest forward leave. Assumes nothing.
-use mathlib.Core.Path.{_≡_, refl, sym, ap, _∙_}
+use mathlib.Core.Path.{_≡_, sym, ap, _∙_}
 use mathlib.Core.Bool.{Bool}
-use mathlib.Core.List.{List, _++_, flatten}
+use mathlib.Core.List.{List}
 use Prim.Native.Nat.{ℕ, _+_, _-_, _*_, _/_, _≤_}
 use native.Mathlib.Omega.{arith}
 use lib.ListN.{length, take, drop, length-drop}
 use lib.Seq.{length-take-le, take-at, drop-at, take-add}
 use Rattle.trace.specs.Trace.{answerLength}
-use Rattle.trace.specs.Play.{Outcome, play, Plays}
+use Rattle.trace.specs.Play.{play, Plays}
 use Rattle.trace.specs.declared.Played.{Played}
 use Rattle.trace.proofs.Laws.{ten-bytes-each}
-use Rattle.replay.specs.Run.{counted, ran, Advances}
+use Rattle.replay.specs.Run.{counted, Advances}
 use Rattle.replay.specs.declared.Run.{Run}
 use Rattle.replay.specs.declared.Advanced.{Advanced}
 use Rattle.replay.proofs.Carried.{carried}

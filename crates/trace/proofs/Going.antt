@@ -1,8 +1,8 @@
 -- The invariant of `play`'s loop, and what each way out of a turn makes of it. Assumes nothing.
 use mathlib.Core.Path.{_≡_, refl, sym, ap, subst, _∙_}
-use mathlib.Core.Logic.{_⊎_, inl, inr}
+use mathlib.Core.Logic.{inl, inr}
 use mathlib.Core.List.{List, [], _∷_, _++_, append-assoc, append-nil, flatten}
-use Prim.Native.Nat.{ℕ, zero, suc, _+_, _-_, _*_, _<_, _≤_}
+use Prim.Native.Nat.{ℕ, _+_, _-_, _*_, _<_, _≤_}
 use native.Mathlib.Omega.{arith}
 use lib.ListN.{length, take, drop, take-append-drop, length-append, length-drop, drop-of-length-le}
 use lib.Seq.{length-take-le, take-at, drop-at, drop-drop, take-all}
@@ -19,7 +19,6 @@ use Rattle.trace.specs.Play.{Outcome, stopNumber, refusalOf, stopped, an
 use Rattle.trace.specs.declared.Parsed.{Parsed}
 use Rattle.trace.specs.declared.Parsed.the-variants.{Record, Unknown, Cut}
 use Rattle.trace.specs.declared.Stop.{Stop}
-use Rattle.trace.specs.declared.Played.{Played}
 use Rattle.trace.proofs.Parsed as P
 use Rattle.trace.proofs.Playing.{unroll, play-none, record-within, one-on, followed-assoc}
 

@@ -1,20 +1,16 @@
 -- The laws of specs/Laws, each by induction over the records. Assumes nothing.
-use mathlib.Core.Path.{_≡_, refl, sym, ap, subst, _∙_}
-use mathlib.Core.Bool.{Bool, true, false, cond}
-use mathlib.Core.List.{List, [], _∷_, _++_, append-assoc, append-nil, flatten}
-use Prim.Native.Nat.{ℕ, zero, suc, _+_, _-_, _*_, _<_, _≤_}
+use mathlib.Core.Path.{_≡_, refl, sym, ap, _∙_}
+use mathlib.Core.List.{List, [], _∷_, _++_, append-assoc, flatten}
+use Prim.Native.Nat.{ℕ, _+_, _-_, _*_, _≤_}
 use native.Mathlib.Omega.{arith}
-use lib.Dec.{ltb}
-use lib.ListN.{length, take, drop, take-append-drop, length-append, length-drop, drop-of-length-le}
+use lib.ListN.{length, take, drop, take-append-drop, length-append, drop-of-length-le}
 use lib.Seq.{length-take-le, take-append-le, drop-append-le, drop-drop, take-at, drop-at}
-use borrow.Author.Tests.{le-ltb}
 use Rattle.qsm.specs.declared.state.Module.{Module}
 use Rattle.qsm.specs.declared.event.Event.{Event}
 use Rattle.qsm.specs.Event.{step}
-use Rattle.trace.specs.Trace.{parsed, answerLength}
-use Rattle.trace.specs.Play.{Outcome, stopped, answered, followed, turn, play}
+use Rattle.trace.specs.Trace.{answerLength}
+use Rattle.trace.specs.Play.{Outcome, answered, followed, play}
 use Rattle.trace.specs.Laws.{TenBytesEach, AnswersFit, unread, RecordsRead, ReadToTheEnd, unstopped, EarlierStand, Resumes, InParts}
-use Rattle.trace.specs.declared.Parsed.the-variants.{Record}
 use Rattle.trace.proofs.Playing.{play-none, one-on, followed-assoc, record-kept, record-alone, played}
 
 pub ten-bytes-each : TenBytesEach

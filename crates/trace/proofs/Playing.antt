@@ -1,18 +1,18 @@
 -- The definition of playing, one record on: a record lies within the trace, the count of records never runs out, and a record stays
 -- the same where more follows it. Assumes nothing.
 use mathlib.Core.Path.{_≡_, refl, sym, ap, subst, _∙_}
-use mathlib.Core.Bool.{Bool, true, false, not, cond, true≢false}
-use mathlib.Core.List.{List, [], _∷_, _++_, append-assoc}
-use Prim.Native.Nat.{ℕ, zero, suc, _+_, _-_, _<_, _≤_}
+use mathlib.Core.Bool.{Bool, true, false, cond, true≢false}
+use mathlib.Core.List.{List, _++_, append-assoc}
+use Prim.Native.Nat.{ℕ, zero, suc, _-_, _<_, _≤_}
 use native.Mathlib.Omega.{arith}
 use lib.Dec.{eqb, ltb}
-use lib.ListN.{length, getD, take, drop, length-append, length-drop, List·getD-append}
+use lib.ListN.{length, take, drop, length-append, length-drop, List·getD-append}
 use lib.Seq.{getD-take, length-take-le}
-use borrow.Author.Tests.{lt-ltb, le-ltb, ltb-false, eq-eqb, ne-eqb, eqb-true, eqb-false}
+use borrow.Author.Tests.{le-ltb, ltb-false, eq-eqb, ne-eqb, eqb-true, eqb-false}
 use Rattle.qsm.specs.declared.state.Module.{Module}
 use Rattle.qsm.specs.declared.event.Event.{Event}
 use Rattle.qsm.specs.Event.{step}
-use Rattle.trace.specs.Trace.{byteAt, wordAt, longAt, whole, holdRecord, readRecord, writeRecord, byKind, parsed, answerLength}
+use Rattle.trace.specs.Trace.{byteAt, whole, byKind, parsed, answerLength}
 use Rattle.trace.specs.Play.{Outcome, stopped, answered, followed, turn, playFor, play}
 use Rattle.trace.specs.declared.Parsed.{Parsed}
 use Rattle.trace.specs.declared.Parsed.the-variants.{Record, Unknown, Cut}

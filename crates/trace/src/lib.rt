@@ -10,7 +10,7 @@ use qsm::event::Answer;
 use qsm::event::Event;
 use qsm::state::Module;
 
-// What stands at the start of a rest of a trace: an event with the length of its record, or why there is none.
+// What stands at the start of a rest of a trace: an event and the position past its record, or why there is none.
 pub enum Parsed {
     Record(Event, usize),
     Unknown,
