@@ -35,7 +35,8 @@ ran r t ended o =
       ended = ended;
     }
 
--- What playing the bytes t into so much room leaves: the run, the answers to write, and the rest of t at the start of the buffer.
+-- What playing the bytes t into so much room leaves: the run, the answers to write, and the rest of t at the start of the buffer. That
+-- the buffers of a trace make up the whole is the law `Streams` of the trace.
 pub record Advances (r : Run) (t : List ℕ) (ended : Bool) (room : ℕ) (a : Advanced) (buf out : List ℕ) : Type 0 where
   pub run : a .run ≡ ran r t ended (play (r .state) t room)
   pub log : take (a .written) out ≡ play (r .state) t room .answers

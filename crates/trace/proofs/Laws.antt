@@ -10,7 +10,7 @@ use Rattle.qsm.specs.declared.event.Event.{Event}
 use Rattle.qsm.specs.Event.{step}
 use Rattle.trace.specs.Trace.{answerLength}
 use Rattle.trace.specs.Play.{Outcome, answered, followed, play}
-use Rattle.trace.specs.Laws.{TenBytesEach, AnswersFit, unread, RecordsRead, ReadToTheEnd, unstopped, EarlierStand, Resumes, InParts}
+use Rattle.trace.specs.Laws.{TenBytesEach, AnswersFit, unread, RecordsRead, ReadToTheEnd, unstopped, EarlierStand, Resumes, InParts, streamed, bytesOf, Streams}
 use Rattle.trace.proofs.Playing.{play-none, one-on, followed-assoc, record-kept, record-alone, played}
 
 pub ten-bytes-each : TenBytesEach
@@ -79,6 +79,22 @@ in-parts m t u room z =
     let all : unread o t ≡ [] = drop-of-length-le t {i = length (flatten (o .records))} (omega (arith, ap length (read-to-the-end m t room z))) in
     ap (play m (t ++ u)) (omega (arith, answers-fit m t room)) ∙ resumes m t u room (room - length (o .answers))
     ∙ ap (λ (l : List ℕ). followed o (play (o .state) (l ++ u) (room - length (o .answers)))) all
+
+pub streams : Streams
+unfolding streamed
+streams [] m left u more = let none : 0 + more ≡ more = omega arith in ap (play m (left ++ u)) none
+streams (b ∷ bs) m left u more =
+    let t = left ++ b .bytes in
+    let o = play m t (b .room) in
+    let s = streamed (o .state) (unread o t) bs in
+    let joined : left ++ ((b .bytes ++ bytesOf bs) ++ u) ≡ t ++ (bytesOf bs ++ u) = simp append-assoc in
+    let room : length (o .answers ++ s .played .answers) + more ≡ length (o .answers) + (length (s .played .answers) + more) =
+    omega (arith, length-append (o .answers) (s .played .answers)) in
+    ap (λ (l : List ℕ). play m l (length (o .answers ++ s .played .answers) + more)) joined
+    ∙ ap (play m (t ++ (bytesOf bs ++ u))) room
+    ∙ resumes m t (bytesOf bs ++ u) (b .room) (length (s .played .answers) + more)
+    ∙ ap (followed o) (streams bs (o .state) (unread o t) u more)
+    ∙ sym (followed-assoc o (s .played) (play (s .played .state) (s .rest ++ u) more))
 
 -- The bounds that a caller needs of what was read and written.
 pub read-within : (m : Module) (t : List ℕ) (room : ℕ) → length (flatten (play m t room .records)) ≤ length t

@@ -1,11 +1,11 @@
 -- Laws of playing a trace: what is read and written, what stands after a stop, and playing in parts.
 use mathlib.Core.Path.{_≡_}
-use mathlib.Core.List.{List, _++_, flatten}
+use mathlib.Core.List.{List, [], _∷_, _++_, flatten}
 use Prim.Native.Nat.{ℕ, _+_, _-_, _*_, _≤_}
 use lib.ListN.{length, drop}
 use Rattle.qsm.specs.declared.state.Module.{Module}
 use Rattle.trace.specs.Trace.{answerLength}
-use Rattle.trace.specs.Play.{Outcome, followed, play}
+use Rattle.trace.specs.Play.{Outcome, stopped, followed, play}
 
 -- Ten bytes are written for each record answered, whatever stopped the trace.
 abbrev pub TenBytesEach : Type 0
@@ -53,3 +53,33 @@ InParts =
     (m : Module) (t u : List ℕ) (room : ℕ) → play m t room .stop ≡ 0 →
     play m (t ++ u) room ≡
     followed (play m t room) (play (play m t room .state) u (room - length (play m t room .answers)))
+
+-- A part of a trace, and the room that it is played into.
+pub record Buffer : Type 0 where
+  pub bytes : List ℕ
+  pub room : ℕ
+
+-- What buffers played one after the other give, and what of their bytes they leave.
+pub record Streamed : Type 0 where
+  pub played : Outcome
+  pub rest : List ℕ
+
+-- Buffer after buffer, each behind what the one before it left.
+unfoldable pub streamed : Module → List ℕ → List Buffer → Streamed
+streamed m left [] = record { played = stopped m 0; rest = left }
+streamed m left (b ∷ bs) =
+    let o : Outcome = play m (left ++ b .bytes) (b .room) in
+    let s : Streamed = streamed (o .state) (unread o (left ++ b .bytes)) bs in
+    record { played = followed o (s .played); rest = s .rest }
+
+abbrev pub bytesOf : List Buffer → List ℕ
+bytesOf [] = []
+bytesOf (b ∷ bs) = b .bytes ++ bytesOf bs
+
+-- However a trace is cut into buffers, it is played as a whole, and goes on from what they left.
+abbrev pub Streams : Type 0
+Streams =
+    (bs : List Buffer) (m : Module) (left u : List ℕ) (more : ℕ) →
+    play m (left ++ (bytesOf bs ++ u)) (length (streamed m left bs .played .answers) + more) ≡
+    followed (streamed m left bs .played)
+    (play (streamed m left bs .played .state) (streamed m left bs .rest ++ u) more)
