@@ -1,0 +1,153 @@
+//! Plays the same traces through `replay` and through the Rust implementation of `reference/`, in turns, and prints how long each took.
+//!
+//! usage: bench REPLAY REFERENCE FOLDER
+
+use std::fs::{self, File};
+use std::path::Path;
+use std::process::{Command, ExitCode, Stdio};
+use std::time::{Duration, Instant};
+
+/// Turns for each program; the best one counts.
+const TURNS: usize = 7;
+
+const RESET: [u8; 1] = [1];
+
+fn hold(pins: u8, rxd: u8, clocks: u16) -> Vec<u8> {
+    let c = clocks.to_be_bytes();
+    vec![2, pins, rxd, c[0], c[1]]
+}
+
+fn read(width: u8, offset: u16) -> Vec<u8> {
+    let o = offset.to_be_bytes();
+    vec![3, 0x80 | width, o[0], o[1]]
+}
+
+fn write(width: u8, offset: u16, value: u32) -> Vec<u8> {
+    let mut record = vec![4, 0x80 | width];
+    record.extend(offset.to_be_bytes());
+    record.extend(value.to_be_bytes());
+    record
+}
+
+/// A small generator of numbers, so that every run plays the same traces.
+struct Random(u64);
+
+impl Random {
+    fn below(&mut self, n: u64) -> u64 {
+        self.0 = self.0.wrapping_mul(6364136223846793005).wrapping_add(1442695040888963407);
+        (self.0 >> 33) % n
+    }
+}
+
+/// Receiver and transmitter on, SCBR 4.
+fn serial_on() -> Vec<u8> {
+    [RESET.to_vec(), write(2, 0x08, 4), write(2, 0x0A, 0x000C)].concat()
+}
+
+/// A quiet line in holds of 65,535 clocks.
+fn quiet() -> Vec<u8> {
+    let mut trace = serial_on();
+    for _ in 0..2_000 {
+        trace.extend(hold(0xFF, 1, 65_535));
+    }
+    trace
+}
+
+/// Characters on RXD and TXD, status then data read after each, while the queue wraps over its sixteen entries.
+fn busy() -> Vec<u8> {
+    let mut random = Random(1);
+    let mut trace = serial_on();
+    trace.extend(write(2, 0x16, 0x7B7E));
+    for i in 0..16 {
+        trace.extend(write(2, 0x120 + 2 * i, random.below(65_536) as u32));
+        trace.extend(write(1, 0x140 + i, [0x0E, 0x4E, 0x8E][random.below(3) as usize]));
+    }
+    trace.extend(write(2, 0x1C, 0x4F00));
+    trace.extend(write(2, 0x18, 0x8104));
+    trace.extend(write(2, 0x1A, 0x8404));
+    for k in 0..15_000 {
+        let character = random.below(256) as u32;
+        let frame = 0x200 | character << 1;
+        for bit in 0..10 {
+            trace.extend(hold(0x7F, (frame >> bit & 1) as u8, 128));
+        }
+        trace.extend(read(2, 0x0C));
+        trace.extend(read(2, 0x0E));
+        if k % 3 == 0 {
+            trace.extend(write(2, 0x0E, character));
+        }
+    }
+    trace
+}
+
+/// A million short records: a polling loop of short holds, reads and a few writes.
+fn short() -> Vec<u8> {
+    let mut random = Random(2);
+    let mut trace = serial_on();
+    for _ in 0..1_000_000 {
+        trace.extend(match random.below(8) {
+            0..=3 => hold(0xFF, 1, 8 + random.below(56) as u16),
+            4 | 5 => read(2, 0x0C),
+            6 => read(2, 0x0E),
+            _ => write(2, 0x120 + 2 * random.below(16) as u16, random.below(65_536) as u32),
+        });
+    }
+    trace
+}
+
+/// How long a program takes for a trace; its log goes to a file.
+fn play(program: &str, trace: &Path, log: &Path) -> std::io::Result<Duration> {
+    let (input, output) = (File::open(trace)?, File::create(log)?);
+    let start = Instant::now();
+    let status = Command::new(program).stdin(input).stdout(output).stderr(Stdio::inherit()).status()?;
+    let took = start.elapsed();
+    if status.success() {
+        Ok(took)
+    } else {
+        Err(std::io::Error::other(format!("{program} failed on {}", trace.display())))
+    }
+}
+
+fn compare(name: &str, records: Vec<u8>, replay: &str, reference: &str, folder: &Path) -> std::io::Result<bool> {
+    let trace = folder.join(format!("{name}.trace"));
+    let logs = [folder.join(format!("{name}.replay.log")), folder.join(format!("{name}.reference.log"))];
+    fs::write(&trace, records)?;
+    let mut best = [Duration::MAX; 2];
+    for _ in 0..TURNS {
+        for (i, program) in [replay, reference].into_iter().enumerate() {
+            best[i] = best[i].min(play(program, &trace, &logs[i])?);
+        }
+    }
+    if fs::read(&logs[0])? != fs::read(&logs[1])? {
+        println!("{name}: the logs differ");
+        return Ok(false);
+    }
+    let ratio = best[0].as_secs_f64() / best[1].as_secs_f64();
+    println!("{name}: replay {:.1?}, Rust {:.1?}, ratio {ratio:.2}", best[0], best[1]);
+    Ok(true)
+}
+
+fn main() -> ExitCode {
+    let words: Vec<String> = std::env::args().collect();
+    let [_, replay, reference, folder] = &words[..] else {
+        eprintln!("usage: bench REPLAY REFERENCE FOLDER");
+        return ExitCode::FAILURE;
+    };
+    let folder = Path::new(folder);
+    let run = || -> std::io::Result<bool> {
+        fs::create_dir_all(folder)?;
+        let mut same = true;
+        for (name, records) in [("quiet", quiet()), ("busy", busy()), ("short", short())] {
+            same &= compare(name, records, replay, reference, folder)?;
+        }
+        Ok(same)
+    };
+    match run() {
+        Ok(true) => ExitCode::SUCCESS,
+        Ok(false) => ExitCode::FAILURE,
+        Err(error) => {
+            eprintln!("bench: {error}");
+            ExitCode::FAILURE
+        }
+    }
+}
