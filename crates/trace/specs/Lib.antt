@@ -1,3 +1,4 @@
 pub mod Trace
 pub mod Play
 pub mod Laws
+pub mod Shown

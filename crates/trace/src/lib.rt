@@ -5,6 +5,9 @@ ghost use Prim.Native.Nat.{_≤_};
 ghost use lib.ListN.{length, drop};
 ghost use Rattle.trace.specs.Trace.{long, supervisorOf, widthOf, holdRecord, readRecord, writeRecord, parsed, answerLength, answerBytes};
 ghost use Rattle.trace.specs.Play.{stopNumber, refusalOf, play, Plays};
+
+mod claims;
+
 use qsm::event::Access;
 use qsm::event::Answer;
 use qsm::event::Event;

@@ -1,0 +1,12 @@
+-- All that is shown of playing a trace.
+use Rattle.trace.specs.Laws.{TenBytesEach, AnswersFit, RecordsRead, ReadToTheEnd, EarlierStand, Resumes, InParts, Streams}
+
+pub record Shown : Type 0 where
+  pub ten-bytes-each : TenBytesEach
+  pub answers-fit : AnswersFit
+  pub records-read : RecordsRead
+  pub read-to-the-end : ReadToTheEnd
+  pub earlier-stand : EarlierStand
+  pub resumes : Resumes
+  pub in-parts : InParts
+  pub streams : Streams

@@ -1,0 +1,9 @@
+// All that is shown of playing a trace.
+ghost use Rattle.trace.specs.Shown.{Shown};
+
+// Nothing to compute: the contract is the record of the laws, so that none of them can be left out unnoticed.
+fn shown() -> bool
+    ensures { λ r. ⌜ Shown ⌝ }
+{
+    true
+}
