@@ -17,3 +17,14 @@ pub mod Witness
 pub mod History
 pub mod Demand3
 pub mod Lift
+pub mod Heard
+pub mod FlagLaws
+pub mod Samples
+pub mod Sending
+pub mod Going
+pub mod Arriving
+pub mod Linked
+pub mod Train
+pub mod Timing
+pub mod Wires
+pub mod Demand2

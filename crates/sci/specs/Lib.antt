@@ -16,3 +16,8 @@ pub mod History
 pub mod Demand3
 pub mod Overrun
 pub mod Witness
+pub mod Levels
+pub mod Link
+pub mod BackToBack
+pub mod Wire
+pub mod Demand2

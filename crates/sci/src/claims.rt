@@ -2,12 +2,21 @@
 ghost use Rattle.sci.specs.declared.flags.Flags.{Flags};
 ghost use Rattle.sci.specs.Members.{Membership};
 ghost use Rattle.sci.specs.Resync.{Resynchronised};
+ghost use Rattle.sci.specs.Demand2.{Demand2};
 ghost use Rattle.sci.specs.Demand3.{Demand3};
 ghost use Rattle.sci.specs.Witness.{Met};
 
 // The laws of membership of the flag set.
 fn membership() -> bool
     ensures { λ r. ⌜ ((a b : Flags) → Membership a b) ⌝ }
+{
+    true
+}
+
+// Demand 2, of the transmitter and the receiver, sample by sample and clock by clock.
+// Ruled out: bits sent highest first; a parity bit that the receiver finds wrong.
+fn demand2() -> bool
+    ensures { λ r. ⌜ Demand2 ⌝ }
 {
     true
 }

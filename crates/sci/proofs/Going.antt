@@ -1,0 +1,332 @@
+-- A receiver on its way through ones and then a frame, sample by sample, with reads between.
+-- After k samples its framer is `after n line k`, whatever was read; no error flag rises on the way; RDRF of the word before goes
+-- through three stages; and the idle count stays below the samples since the start bit.
+-- Assumes nothing.
+use Prim.Native.Nat.{ℕ, zero, suc, _+_, _≤_, _<_}
+use mathlib.Core.Bool.{Bool, true, false, not, _&&_, _||_, false≢true}
+use mathlib.Core.List.{List, [], _∷_, _++_}
+use mathlib.Core.Path.{_≡_, refl, ap, ap₂, sym, subst, _∙_}
+use native.Mathlib.Omega.{arith}
+use native.Mathlib.Decide.{decLt}
+use lib.Seq.{getD-append-add}
+use lib.ListN.{replicate, length, getD, List·getD-append, getD-replicate, length-replicate}
+use Rattle.steps.specs.Bits.{bit}
+use Rattle.sci.specs.Flags.{receiveFlags}
+use Rattle.sci.specs.Status.{markSeen, fallSeen}
+use Rattle.sci.specs.Control.{M, bitsOf, frameSamples}
+use Rattle.sci.specs.Framer.{searching, ends, framed}
+use Rattle.sci.specs.Receiver.{three, receiverAfter, received}
+use Rattle.sci.specs.Levels.{stretched, frameLevels, framerAfter, endSample}
+use Rattle.sci.specs.Link.{Event, sample, statusRead, dataRead, happens, history, samplesOf}
+use Rattle.sci.specs.declared.framer.Framer.{Framer}
+use Rattle.sci.specs.declared.status.Status.{Status}
+use Rattle.sci.specs.declared.receiver.Receiver.{Receiver}
+use Rattle.sci.specs.declared.receiver.Received.{Received}
+use Rattle.sci.proofs.FlagLaws.{set, marked, set-seen, marked-seen, set-fall-seen}
+use Rattle.sci.proofs.Heard.{after, At, at}
+use Rattle.sci.proofs.Sending.{and-left, and-right}
+use Rattle.sci.proofs.Samples.{passed-flags, passed-marks, passed-idle, stays-awake, count-up, count-zero, not-reached, zero-not-reached}
+
+-- The line: g ones, then a frame.
+abbrev pub lineOf : ℕ → List Bool → List Bool
+lineOf g bits = replicate g true ++ frameLevels bits
+
+-- After k samples of it the framer stands at `after n line k`, and the next sample takes it on.
+pub record On (n g : ℕ) (line : List Bool) (k : ℕ) : Type 0 where
+  pub quiet : ends (after n line k) ≡ false
+  pub steps : (three : Bool) → (k ≤ g → three ≡ true) → framed n (after n line k) three (getD line k true) ≡ after n line (suc k)
+
+pub on-line : (n g : ℕ) (bits : List Bool) (k : ℕ) → n ≡ length bits → k < g + endSample n → On n g (lineOf g bits) k
+unfolding framerAfter framed
+on-line n zero bits k e h =
+    let a : At n (frameLevels bits) k = at n bits k e (omega arith) in
+    record { quiet = a .quiet; steps = λ three i. a .steps three (λ z. i (omega arith)) }
+on-line n (suc g) bits zero e h = record { quiet = refl; steps = λ three i. rw (i (omega arith)) }
+on-line n (suc g) bits (suc k) e h =
+    let a : On n g (lineOf g bits) k = on-line n g bits k e (omega arith) in
+    record { quiet = a .quiet; steps = λ three i. a .steps three (λ z. i (omega arith)) }
+
+-- Past the ones.
+pub after-ones : (n g : ℕ) (bits : List Bool) (k : ℕ) → after n (lineOf g bits) (g + k) ≡ after n (frameLevels bits) k
+unfolding framerAfter framed
+after-ones n zero bits k =
+    let e : 0 + k ≡ k = omega arith in
+    ap (after n (frameLevels bits)) e
+after-ones n (suc g) bits k =
+    let e : suc g + k ≡ suc (g + k) = omega arith in
+    ap (after n (true ∷ lineOf g bits)) e ∙ after-ones n g bits k
+
+pub ones-first : (g : ℕ) (bits : List Bool) (k : ℕ) → k < g → getD (lineOf g bits) k true ≡ true
+ones-first g bits k h =
+    List·getD-append (replicate g true) (frameLevels bits) true k (rw (length-replicate g true) h) ∙ getD-replicate g k true true h
+
+-- The receiver after k samples.
+pub record Hearing (n g : ℕ) (line : List Bool) (k : ℕ) (r : Receiver) : Type 0 where
+  pub framer : r .framer ≡ after n line k
+  pub ones : k ≤ g → three r ≡ true
+  pub awake : r .asleep ≡ false
+  pub last1 : (j : ℕ) → k ≡ suc j → r .last1 ≡ getD line j true
+  pub last2 : (j : ℕ) → k ≡ suc (suc j) → r .last2 ≡ getD line j true
+  pub last3 : (j : ℕ) → k ≡ suc (suc (suc j)) → r .last3 ≡ getD line j true
+
+pub hear : (g : ℕ) (line : List Bool) (k : ℕ) (r : Receiver) (s : Status) (c : ℕ) (x : Bool) → Hearing (bitsOf (M c)) g line k r →
+    On (bitsOf (M c)) g line k → (k < g → getD line k true ≡ true) → x ≡ getD line k true →
+    Hearing (bitsOf (M c)) g line (suc k) (received r s c x .receiver)
+unfolding received receiverAfter
+hear g line k r s c x h a o e =
+    record {
+      framer = ap₂ (λ (f : Framer) (y : Bool). framed (bitsOf (M c)) f (three r) y) (h .framer) e ∙ a .steps (three r) (h .ones);
+      ones = λ l.
+          let t : three r ≡ true = h .ones (omega arith) in
+          let t1 : r .last1 ≡ true = and-left (r .last1) (r .last2) (and-left (r .last1 && r .last2) (r .last3) t) in
+          let t2 : r .last2 ≡ true = and-right (r .last1) (r .last2) (and-left (r .last1 && r .last2) (r .last3) t) in
+          rw (e, o (omega arith), t1, t2);
+      awake = stays-awake r s c x (h .awake);
+      last1 = λ j q. e ∙ ap (λ (i : ℕ). getD line i true) (omega arith);
+      last2 = λ j q. h .last1 j (omega arith);
+      last3 = λ j q. h .last2 j (omega arith);
+    }
+
+-- Neither OR, NF, FE nor PF.
+pub record Clean (s : Status) : Type 0 where
+  pub pf : set 0 s ≡ false
+  pub fe : set 1 s ≡ false
+  pub nf : set 2 s ≡ false
+  pub or : set 3 s ≡ false
+
+pub clean-same : {s s′ : Status} → ((k : ℕ) → bit k 32 ≡ false → bit k 16 ≡ false → set k s′ ≡ set k s) → Clean s → Clean s′
+clean-same f h =
+    record {
+      pf = f 0 refl refl ∙ h .pf;
+      fe = f 1 refl refl ∙ h .fe;
+      nf = f 2 refl refl ∙ h .nf;
+      or = f 3 refl refl ∙ h .or;
+    }
+
+-- A clear flag stays clear in a read of data.
+read-clear : (k : ℕ) (s : Status) → set k s ≡ false → set k (fallSeen s receiveFlags) ≡ false
+read-clear k s h =
+    set-fall-seen k s receiveFlags
+    ∙ ap (λ (b : Bool). b && not (set k s && marked k s && bit k 95)) h
+
+clean-read : (s : Status) → Clean s → Clean (fallSeen s receiveFlags)
+clean-read s h =
+    record {
+      pf = read-clear 0 s (h .pf);
+      fe = read-clear 1 s (h .fe);
+      nf = read-clear 2 s (h .nf);
+      or = read-clear 3 s (h .or);
+    }
+
+-- What the reads have done about RDRF: nothing; status read since it rose; then data read.
+pub data Stage : Type 0 where
+  waiting : Stage
+  seen : Stage
+  free : Stage
+
+abbrev pub Rdrf : Stage → Status → Type 0
+Rdrf waiting s = Unit {0}
+Rdrf seen s = set 6 s ≡ true → marked 6 s ≡ true
+Rdrf free s = set 6 s ≡ false
+
+abbrev pub staged : Event → Stage → Stage
+staged (sample x) st = st
+staged statusRead waiting = seen
+staged statusRead seen = seen
+staged statusRead free = free
+staged dataRead waiting = waiting
+staged dataRead seen = free
+staged dataRead free = free
+
+pub rdrf-same : (st : Stage) (s s′ : Status) → set 6 s′ ≡ set 6 s → marked 6 s′ ≡ marked 6 s → Rdrf st s → Rdrf st s′
+rdrf-same waiting s s′ e m h = tt
+rdrf-same seen s s′ e m h = λ q. m ∙ h (sym e ∙ q)
+rdrf-same free s s′ e m h = e ∙ h
+
+or-right : (a b : Bool) → b ≡ true → a || b ≡ true
+or-right true b e = refl
+or-right false b e = e
+
+pub rdrf-status : (st : Stage) (s : Status) → Rdrf st s → Rdrf (staged statusRead st) (markSeen s)
+rdrf-status waiting s h = λ q. marked-seen 6 s ∙ or-right (marked 6 s) (set 6 s) (sym (set-seen 6 s) ∙ q)
+rdrf-status seen s h = λ q. marked-seen 6 s ∙ or-right (marked 6 s) (set 6 s) (sym (set-seen 6 s) ∙ q)
+rdrf-status free s h = set-seen 6 s ∙ h
+
+falls : (a m : Bool) → (a ≡ true → m ≡ true) → a && not (a && m && true) ≡ false
+falls false m h = refl
+falls true true h = refl
+falls true false h = absurd (false≢true (h refl))
+
+pub rdrf-data : (st : Stage) (s : Status) → Rdrf st s → Rdrf (staged dataRead st) (fallSeen s receiveFlags)
+rdrf-data waiting s h = tt
+rdrf-data seen s h = set-fall-seen 6 s receiveFlags ∙ falls (set 6 s) (marked 6 s) h
+rdrf-data free s h = read-clear 6 s h
+
+unfoldable pub stages : List Event → Stage → Stage
+stages [] st = st
+stages (e ∷ es) st = stages es (staged e st)
+
+pub record Going (n g : ℕ) (line : List Bool) (k : ℕ) (st : Stage) (p : Received) : Type 0 where
+  pub hearing : Hearing n g line k (p .receiver)
+  pub clean : Clean (p .status)
+  pub rdrf : Rdrf st (p .status)
+
+-- A receiver that searches after three ones.
+pub record Rested (st : Stage) (p : Received) : Type 0 where
+  pub searches : p .receiver .framer ≡ searching
+  pub ones : three (p .receiver) ≡ true
+  pub awake : p .receiver .asleep ≡ false
+  pub clean : Clean (p .status)
+  pub rdrf : Rdrf st (p .status)
+
+pub start : (n g : ℕ) (bits : List Bool) (st : Stage) (p : Received) → Rested st p → Going n g (lineOf g bits) 0 st p
+unfolding framerAfter
+start n g bits st p r =
+    record {
+      hearing =
+          record {
+            framer = r .searches;
+            ones = λ l. r .ones;
+            awake = r .awake;
+            last1 = λ j q. absurd (omega arith);
+            last2 = λ j q. absurd (omega arith);
+            last3 = λ j q. absurd (omega arith);
+          };
+      clean = r .clean;
+      rdrf = r .rdrf;
+    }
+
+module _ (c g : ℕ) (bits : List Bool) (sized : bitsOf (M c) ≡ length bits) where
+  pub going-sample : (k : ℕ) (st : Stage) (p : Received) (x : Bool) → Going (bitsOf (M c)) g (lineOf g bits) k st p →
+      x ≡ getD (lineOf g bits) k true → k < g + endSample (bitsOf (M c)) →
+      Going (bitsOf (M c)) g (lineOf g bits) (suc k) st (received (p .receiver) (p .status) c x)
+  going-sample k st p x h e l =
+      let o : On (bitsOf (M c)) g (lineOf g bits) k = on-line (bitsOf (M c)) g bits k sized l in
+      let q : ends (p .receiver .framer) ≡ false = ap ends (h .hearing .framer) ∙ o .quiet in
+      record {
+        hearing = hear g (lineOf g bits) k (p .receiver) (p .status) c x (h .hearing) o (ones-first g bits k) e;
+        clean = clean-same (passed-flags (p .receiver) (p .status) c x q) (h .clean);
+        rdrf =
+            rdrf-same st (p .status) (received (p .receiver) (p .status) c x .status)
+            (passed-flags (p .receiver) (p .status) c x q 6 refl refl) (passed-marks (p .receiver) (p .status) c x q 6 refl) (h .rdrf);
+      }
+
+  pub going-status : (k : ℕ) (st : Stage) (p : Received) → Going (bitsOf (M c)) g (lineOf g bits) k st p →
+      Going (bitsOf (M c)) g (lineOf g bits) k (staged statusRead st)
+      (record { receiver = p .receiver; status = markSeen (p .status) })
+  going-status k st p h =
+      record {
+        hearing = h .hearing;
+        clean = clean-same (λ j e f. set-seen j (p .status)) (h .clean);
+        rdrf = rdrf-status st (p .status) (h .rdrf);
+      }
+
+  pub going-data : (k : ℕ) (st : Stage) (p : Received) → Going (bitsOf (M c)) g (lineOf g bits) k st p →
+      Going (bitsOf (M c)) g (lineOf g bits) k (staged dataRead st)
+      (record { receiver = p .receiver; status = fallSeen (p .status) receiveFlags })
+  going-data k st p h =
+      record { hearing = h .hearing; clean = clean-read (p .status) (h .clean); rdrf = rdrf-data st (p .status) (h .rdrf) }
+
+  -- Samples that are the line's from k on.
+  pub going : (es : List Event) (k : ℕ) (st : Stage) (p : Received) → Going (bitsOf (M c)) g (lineOf g bits) k st p →
+      ((j : ℕ) → j < length (samplesOf es) → getD (samplesOf es) j true ≡ getD (lineOf g bits) (k + j) true) →
+      k + length (samplesOf es) ≤ g + endSample (bitsOf (M c)) →
+      Going (bitsOf (M c)) g (lineOf g bits) (k + length (samplesOf es)) (stages es st) (history c es p)
+  unfolding history happens samplesOf stages
+  going [] k st p h a l =
+      let z : k ≡ k + 0 = omega arith in
+      subst (λ (j : ℕ). Going (bitsOf (M c)) g (lineOf g bits) j st p) z h
+  going (sample x ∷ es) k st p h a l =
+      let z : suc k + length (samplesOf es) ≡ k + suc (length (samplesOf es)) = omega arith in
+      let z0 : k + 0 ≡ k = omega arith in
+      subst
+      (λ (j : ℕ).
+      Going (bitsOf (M c)) g (lineOf g bits) j (stages es st) (history c es (received (p .receiver) (p .status) c x)))
+      z
+      (going es (suc k) st (received (p .receiver) (p .status) c x)
+      (going-sample k st p x h (a 0 (omega arith) ∙ ap (λ (i : ℕ). getD (lineOf g bits) i true) z0) (omega arith))
+      (λ j u.
+      let z1 : k + suc j ≡ suc k + j = omega arith in
+      a (suc j) (omega arith) ∙ ap (λ (i : ℕ). getD (lineOf g bits) i true) z1)
+      (omega arith))
+  going (statusRead ∷ es) k st p h a l =
+      going es k (staged statusRead st) (record { receiver = p .receiver; status = markSeen (p .status) })
+      (going-status k st p h) a l
+  going (dataRead ∷ es) k st p h a l =
+      going es k (staged dataRead st) (record { receiver = p .receiver; status = fallSeen (p .status) receiveFlags })
+      (going-data k st p h) a l
+
+-- The idle count on the way, from q on, and IDLE clear.
+pub record Counting (g q k : ℕ) (r : Receiver) (s : Status) : Type 0 where
+  pub idle : set 4 s ≡ false
+  pub early : k ≤ g → r .idle ≤ q + k
+  pub late : g < k → r .idle + g < k
+
+pub start-level : (g : ℕ) (bits : List Bool) → getD (lineOf g bits) g true ≡ false
+unfolding stretched
+start-level g bits =
+    let z : g ≡ length (replicate g true) + 0 = rw (length-replicate g true) (omega arith) in
+    ap (λ (i : ℕ). getD (lineOf g bits) i true) z ∙ getD-append-add (replicate g true) (frameLevels bits) 0 true
+
+module _ (c g q : ℕ) (bits : List Bool) (low : 0 < g → q + g < frameSamples (bitsOf (M c))) where
+  pub counting-sample : (k : ℕ) (r : Receiver) (s : Status) (x : Bool) → Counting g q k r s → ends (r .framer) ≡ false →
+      x ≡ getD (lineOf g bits) k true → k < g + endSample (bitsOf (M c)) →
+      Counting g q (suc k) (received r s c x .receiver) (received r s c x .status)
+  counting-sample k r s x h e l b = by-order (decLt k g) (decLt g k)
+    where
+      by-order : Dec (k < g) → Dec (g < k) → Counting g q (suc k) (received r s c x .receiver) (received r s c x .status)
+      by-order (yes u) d =
+          let a : q + g < frameSamples (bitsOf (M c)) = low (omega arith) in
+          record {
+            idle = passed-idle r s c x e (not-reached r s c x (omega (arith, h .early (omega arith)))) ∙ h .idle;
+            early = λ v. omega (arith, h .early (omega arith), count-up r s c x);
+            late = λ v. absurd (omega arith);
+          }
+      by-order (no u) (yes v) =
+          record {
+            idle = passed-idle r s c x e (not-reached r s c x (omega (arith, h .late v))) ∙ h .idle;
+            early = λ z. absurd (omega arith);
+            late = λ z. omega (arith, h .late v, count-up r s c x);
+          }
+      by-order (no u) (no v) =
+          let z : k ≡ g = omega arith in
+          let y : x ≡ false = l ∙ ap (λ (i : ℕ). getD (lineOf g bits) i true) z ∙ start-level g bits in
+          record {
+            idle = passed-idle r s c x e (zero-not-reached r s c x y) ∙ h .idle;
+            early = λ w. absurd (omega arith);
+            late = λ w. omega (arith, count-zero r s c x y);
+          }
+
+  -- Samples that are the line's from k on.
+  pub counting : bitsOf (M c) ≡ length bits → (es : List Event) (k : ℕ) (st : Stage) (p : Received) →
+      Going (bitsOf (M c)) g (lineOf g bits) k st p → Counting g q k (p .receiver) (p .status) →
+      ((j : ℕ) → j < length (samplesOf es) → getD (samplesOf es) j true ≡ getD (lineOf g bits) (k + j) true) →
+      k + length (samplesOf es) ≤ g + endSample (bitsOf (M c)) →
+      Counting g q (k + length (samplesOf es)) (history c es p .receiver) (history c es p .status)
+  unfolding history happens samplesOf
+  counting sized [] k st p h n a l =
+      let z : k ≡ k + 0 = omega arith in
+      subst (λ (j : ℕ). Counting g q j (p .receiver) (p .status)) z n
+  counting sized (sample x ∷ es) k st p h n a l =
+      let z : suc k + length (samplesOf es) ≡ k + suc (length (samplesOf es)) = omega arith in
+      let z0 : k + 0 ≡ k = omega arith in
+      let e : x ≡ getD (lineOf g bits) k true = a 0 (omega arith) ∙ ap (λ (i : ℕ). getD (lineOf g bits) i true) z0 in
+      let o : On (bitsOf (M c)) g (lineOf g bits) k = on-line (bitsOf (M c)) g bits k sized (omega arith) in
+      let p′ : Received = received (p .receiver) (p .status) c x in
+      subst (λ (j : ℕ). Counting g q j (history c es p′ .receiver) (history c es p′ .status)) z
+      (counting sized es (suc k) st p′ (going-sample c g bits sized k st p x h e (omega arith))
+      (counting-sample k (p .receiver) (p .status) x n (ap ends (h .hearing .framer) ∙ o .quiet) e (omega arith))
+      (λ j u.
+      let z1 : k + suc j ≡ suc k + j = omega arith in
+      a (suc j) (omega arith) ∙ ap (λ (i : ℕ). getD (lineOf g bits) i true) z1)
+      (omega arith))
+  counting sized (statusRead ∷ es) k st p h n a l =
+      counting sized es k (staged statusRead st) (record { receiver = p .receiver; status = markSeen (p .status) })
+      (going-status c g bits sized k st p h)
+      (record { idle = set-seen 4 (p .status) ∙ n .idle; early = n .early; late = n .late })
+      a l
+  counting sized (dataRead ∷ es) k st p h n a l =
+      counting sized es k (staged dataRead st) (record { receiver = p .receiver; status = fallSeen (p .status) receiveFlags })
+      (going-data c g bits sized k st p h)
+      (record { idle = read-clear 4 (p .status) (n .idle); early = n .early; late = n .late })
+      a l
