@@ -28,3 +28,4 @@ pub mod Train
 pub mod Timing
 pub mod Wires
 pub mod Demand2
+pub mod Quiet

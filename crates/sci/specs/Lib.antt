@@ -21,3 +21,4 @@ pub mod Link
 pub mod BackToBack
 pub mod Wire
 pub mod Demand2
+pub mod Quiet
