@@ -29,3 +29,4 @@ pub mod Timing
 pub mod Wires
 pub mod Demand2
 pub mod Quiet
+pub mod Plain

@@ -22,3 +22,4 @@ pub mod BackToBack
 pub mod Wire
 pub mod Demand2
 pub mod Quiet
+pub mod Plain

@@ -1,6 +1,7 @@
 // Where the receiver stands in a frame, and what one sample makes of it.
 ghost use mathlib.Core.Path.{_≡_};
 ghost use Rattle.sci.specs.Control.{bitsOf};
+ghost use Rattle.sci.specs.Plain.{busy, rests, rested};
 ghost use Rattle.sci.specs.Framer.{searching, begun, begins, abandons, ends, frameOf, searched, judged, heard, startBit, collected, dataBit, stopBit, inBit, framed};
 use crate::bits::disagree;
 use crate::bits::vote;
@@ -93,6 +94,32 @@ impl Framer {
             word: self.shift,
             noise: self.noise | disagree(self.first, self.second, x),
             stop: vote(self.first, self.second, x),
+        }
+    }
+
+    // Whether a sample changes nothing but RT: no start bit begins, and its RT is none at which a bit is sampled, voted on or ended, as
+    // RT3, RT5, RT7 to RT10 and RT16 are.
+    // Ruled out: RT3 of a start bit passed over; a start bit passed over.
+    pub fn rests(self, three: bool, x: bool) -> bool
+        ensures { λ r. ⌜ r ≡ rests self three x ⌝ }
+    {
+        if self.framing {
+            !busy(self.rt)
+        } else {
+            !three | x
+        }
+    }
+
+    // Such a sample.
+    // Ruled out: RT that stands still in a frame; RT that runs without a frame.
+    pub fn rested(mut self) -> Framer
+        ensures { λ r. ⌜ r ≡ rested self ⌝ }
+    {
+        if self.framing {
+            self.rt = self.rt % 16 + 1;
+            self
+        } else {
+            self
         }
     }
 
@@ -231,6 +258,14 @@ impl Framer {
             self.searched(self.begins(three, x), bits_of(m))
         }
     }
+}
+
+// Whether something is done at the RT after this one.
+fn busy(rt: u8) -> bool
+    ensures { λ r. ⌜ r ≡ busy rt ⌝ }
+{
+    let at: u16 = 33748;
+    (at >> (rt % 16)) % 2 == 1
 }
 
 // The bits collected, low bit first, with one more.

@@ -3,6 +3,7 @@ ghost use mathlib.Core.Path.{_≡_};
 ghost use mathlib.Core.Bool.{cond};
 ghost use Prim.Native.Nat.{_+_, min};
 ghost use Rattle.sci.specs.Control.{bitsOf};
+ghost use Rattle.sci.specs.Plain.{plain, passed};
 ghost use Rattle.sci.specs.Receiver.{startState, three, addressed, full, raised, entered, statusAfter, idleCount, takes, reaches, outcome, receiverAfter, received};
 use crate::bits::parity_bit;
 use crate::control;
@@ -179,9 +180,29 @@ impl Receiver {
         }
     }
 
-    // One sample.
-    // Ruled out: a lost frame that overwrites SCDR; a frame that enters while the receiver sleeps.
-    pub fn sample(self, s: Status, sccr1: u16, x: bool) -> Received
+    // Whether a sample changes nothing but RT, the last samples and the idle count, which does not get to its limit.
+    fn plain(self, m: bool, x: bool) -> bool
+        ensures { λ r. ⌜ r ≡ plain self (bitsOf m) x ⌝ }
+    {
+        let framer = self.framer;
+        framer.rests(self.three(), x) & !(x & self.reaches(m))
+    }
+
+    // Such a sample.
+    fn passed(mut self, m: bool, x: bool) -> Receiver
+        ensures { λ r. ⌜ r ≡ passed self (bitsOf m) x ⌝ }
+    {
+        let framer = self.framer;
+        self.framer = framer.rested();
+        self.last3 = self.last2;
+        self.last2 = self.last1;
+        self.last1 = x;
+        self.idle = idle_count(x, self.idle, control::frame_samples(m));
+        self
+    }
+
+    // Any sample.
+    fn turned(self, s: Status, sccr1: u16, x: bool) -> Received
         ensures { λ r. ⌜ r ≡ received self s sccr1 x ⌝ }
     {
         let framer = self.framer;
@@ -191,6 +212,22 @@ impl Receiver {
         Received {
             receiver: self.after(o, sccr1, x),
             status: status_after(s, o, framer.frame(x), bad, idles),
+        }
+    }
+
+    // One sample; most are plain.
+    // Ruled out: a lost frame that overwrites SCDR; a frame that enters while the receiver sleeps.
+    pub fn sample(self, s: Status, sccr1: u16, x: bool) -> Received
+        ensures { λ r. ⌜ r ≡ received self s sccr1 x ⌝ }
+    {
+        let m = control::m(sccr1);
+        if self.plain(m, x) {
+            Received {
+                receiver: self.passed(m, x),
+                status: s,
+            }
+        } else {
+            self.turned(s, sccr1, x)
         }
     }
 }

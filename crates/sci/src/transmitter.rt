@@ -1,6 +1,7 @@
 // The transmitter: one sample at a time, with the flags that it raises.
 ghost use mathlib.Core.Path.{_≡_};
 ghost use Rattle.sci.specs.Control.{bitsOf};
+ghost use Rattle.sci.specs.Plain.{turns, shifted};
 ghost use Rattle.sci.specs.Transmitter.{runs, level, withParity, dataSent, frameBits, preambleBits, newLeft, newShift, passed, ends, free, beginsPreamble, beginsFrame, sent};
 use crate::bits::parity_bit;
 use crate::control;
@@ -112,9 +113,26 @@ impl Transmitter {
         !self.runs() | (self.shift % 2 == 1)
     }
 
-    // One sample: what runs ends; what waits begins, a preamble before data.
-    // Ruled out: TDRE not raised at a frame's start; data sent before the preamble.
-    pub fn sample(self, s: Status, sccr1: u16) -> Sent
+    // Whether a frame or preamble ends or begins with a sample.
+    fn turns(self, s: Status, sccr1: u16) -> bool
+        ensures { λ r. ⌜ r ≡ turns self s sccr1 ⌝ }
+    {
+        let free = control::te(sccr1) & (self.left <= 1);
+        let frame = free & !self.preamble & !s.has(Flags::TDRE);
+        (self.left == 1) | (free & self.preamble) | frame
+    }
+
+    // A sample at which none does.
+    fn shifted(mut self) -> Transmitter
+        ensures { λ r. ⌜ r ≡ shifted self ⌝ }
+    {
+        self.left = steps::one_less(self.left);
+        self.shift = passed(self.left % 16 == 0, self.shift);
+        self
+    }
+
+    // Any sample.
+    fn turned(self, s: Status, sccr1: u16) -> Sent
         ensures { λ r. ⌜ r ≡ sent self s sccr1 ⌝ }
     {
         let m = control::m(sccr1);
@@ -134,6 +152,21 @@ impl Transmitter {
                 left,
             },
             status: ended.raise_if(frame, Flags::TDRE),
+        }
+    }
+
+    // One sample: what runs ends; what waits begins, a preamble before data.
+    // Ruled out: TDRE not raised at a frame's start; data sent before the preamble.
+    pub fn sample(self, s: Status, sccr1: u16) -> Sent
+        ensures { λ r. ⌜ r ≡ sent self s sccr1 ⌝ }
+    {
+        if self.turns(s, sccr1) {
+            self.turned(s, sccr1)
+        } else {
+            Sent {
+                transmitter: self.shifted(),
+                status: s,
+            }
         }
     }
 }

@@ -1,27 +1,12 @@
-use Rattle.sci.specs.Transmitter.{sent}
+use mathlib.Core.Path.{sym, _∙_}
 use borrow.Author.Needs.{needs}
+use Rattle.sci.proofs.Plain.{shifts}
 use Rattle.sci.proofs.transmitter.Transmitter.sample.Statement.{statement}
 use Rattle.sci.proofs.transmitter.Transmitter.sample.Tie as tie
 
-returns : tie.Need-returns
-unfolding sent
-returns c = rw (c .raise-if2 .ensures, c .before .new-shift .ensures, c .before .before .frame-bits .ensures, c .before .before .before .preamble-bits .ensures, c .before .before .before .before .before .raise-if .ensures, c .before .before .before .before .before .before .before .passed .ensures, c .before .before .before .before .before .before .before .before .new-left .ensures, c .before .before .before .before .before .before .before .before .before .data-sent .ensures, c .before .before .before .before .before .before .before .before .before .before .pt .ensures, c .before .before .before .before .before .before .before .before .before .before .before .pe .ensures, c .before .before .before .before .before .before .before .before .before .before .before .before .before .before .before .te .ensures, c .before .before .before .before .before .before .before .before .before .before .before .before .before .before .before .before .has .ensures, c .before .before .before .before .before .before .before .before .before .before .before .before .before .before .before .before .before .m .ensures)
+returns-2 : tie.Need-returns-2
+returns-2 c = rw (c .shifted .ensures) (shifts _ _ _ (sym (c .before .before .turns .ensures) ∙ c .before .if1 .left))
 
 pub sample-spec : {M : Type 1} → statement M
 sample-spec =
-    tie.close
-    (tie.spec
-    (λ c κs. search needs)
-    (λ c κs. search needs)
-    (λ c κs. search needs)
-    (λ c κs. search needs)
-    (λ c κs. search needs)
-    (λ c κs. search needs)
-    (λ c κs. search needs)
-    (λ c κs. search needs)
-    (λ c κs. search needs)
-    (λ c κs. search needs)
-    (λ c κs. search needs)
-    (λ c κs. search needs)
-    (λ c κs. search needs)
-    returns)
+    tie.close (tie.spec (λ c κs. search needs) (λ c κs. search needs) (λ c κs. search needs) (λ c. search needs) returns-2)

@@ -1,0 +1,146 @@
+-- Samples that change little: there `received` and `sent` come to the short forms.
+use Prim.Native.Nat.{ℕ, _+_, _%_, _<_}
+use mathlib.Core.Bool.{Bool, true, false, not, cond, _&&_, _||_, and-true, and-false, or-false}
+use mathlib.Core.Path.{_≡_, refl, sym}
+use native.Mathlib.Omega.{arith}
+use lib.Dec.{eqb, leb}
+use borrow.Author.Tests.{ne-eqb, eqb-false, leb-true, not-true}
+use Rattle.steps.specs.Bits.{bit}
+use Rattle.sci.specs.Control.{M, bitsOf}
+use Rattle.sci.specs.Framer.{begins, abandons, ends, searched, atRt, startBit, dataBit, stopBit, inBit, nextRt, framed}
+use Rattle.sci.specs.Status.{raiseIf, fallIf}
+use Rattle.sci.specs.Receiver.{three, reaches, outcome, entered, statusAfter, receiverAfter, received}
+use Rattle.sci.specs.Transmitter.{beginsPreamble, beginsFrame, ends as ended, sent}
+use Rattle.sci.specs.Plain.{busy, rests, rested, plain, passed, turns, shifted}
+use Rattle.sci.specs.declared.status.Status.{Status}
+use Rattle.sci.specs.declared.framer.Framer.{Framer}
+use Rattle.sci.specs.declared.receiver.Receiver.{Receiver}
+use Rattle.sci.specs.declared.receiver.Received.{Received}
+use Rattle.sci.specs.declared.transmitter.Transmitter.{Transmitter}
+use Rattle.sci.specs.declared.transmitter.Sent.{Sent}
+
+-- Tests that fail, one of several.
+first : (a b : Bool) → (a && b) ≡ true → a ≡ true
+first true b h = refl
+first false b h = h
+
+second : (a b : Bool) → (a && b) ≡ true → b ≡ true
+second a true h = refl
+second true false h = h
+second false false h = h
+
+none₁ : (a b c : Bool) → (a || b || c) ≡ false → a ≡ false
+none₁ true b c h = h
+none₁ false b c h = refl
+
+none₂ : (a b c : Bool) → (a || b || c) ≡ false → b ≡ false
+none₂ a false c h = refl
+none₂ true true c h = h
+none₂ false true c h = h
+
+none₃ : (a b c : Bool) → (a || b || c) ≡ false → c ≡ false
+none₃ a b false h = refl
+none₃ true b true h = h
+none₃ false true true h = h
+none₃ false false true h = h
+
+third : (a b c d : Bool) → c ≡ false → (a && b && c && d) ≡ false
+third true true c d e = rw e
+third true false c d e = refl
+third false b c d e = refl
+
+-- An RT at which nothing is done is none of those at which something is.
+module _ (rt : ℕ) (e : busy rt ≡ false) where
+  not-next : (k : ℕ) → bit k 33748 ≡ true → eqb (rt % 16 + 1) (k + 1) ≡ false
+  not-next k t =
+      ne-eqb (rt % 16 + 1) (k + 1)
+      (λ h.
+      let same : rt % 16 ≡ k = omega arith in
+      let z : _≡_ {A = ℕ} 0 1 = cc in
+      omega arith)
+
+  not-now : (k : ℕ) → k < 16 → bit k 33748 ≡ true → eqb rt k ≡ false
+  not-now k b t =
+      ne-eqb rt k
+      (λ h.
+      let same : rt % 16 ≡ k = omega arith in
+      let z : _≡_ {A = ℕ} 0 1 = cc in
+      omega arith)
+
+  unvoted : (leb 8 (rt % 16 + 1) && leb (rt % 16 + 1) 10) ≡ false
+  unvoted = go (leb 8 (rt % 16 + 1)) (leb (rt % 16 + 1) 10) refl refl
+    where
+      go : (a b : Bool) → leb 8 (rt % 16 + 1) ≡ a → leb (rt % 16 + 1) 10 ≡ b → (a && b) ≡ false
+      go true true p q =
+          let low : _ = leb-true 8 (rt % 16 + 1) p in
+          let high : _ = leb-true (rt % 16 + 1) 10 q in
+          let eight : _ = eqb-false (rt % 16 + 1) 8 (not-next 7 refl) in
+          let nine : _ = eqb-false (rt % 16 + 1) 9 (not-next 8 refl) in
+          let ten : _ = eqb-false (rt % 16 + 1) 10 (not-next 9 refl) in
+          absurd (omega arith)
+      go true false p q = refl
+      go false b p q = refl
+
+in-frame : (n : ℕ) (f : Framer) (x : Bool) → busy (f .rt) ≡ false → (starting stopping : Bool) →
+    inBit starting stopping n f (nextRt f) x ≡ atRt f (nextRt f)
+unfolding startBit stopBit dataBit
+in-frame n f x e true stopping =
+    rw (not-next (f .rt) e 2 refl, not-next (f .rt) e 4 refl, not-next (f .rt) e 6 refl, not-next (f .rt) e 15 refl, unvoted (f .rt) e, or-false)
+in-frame n f x e false true =
+    rw (not-next (f .rt) e 7 refl, not-next (f .rt) e 8 refl, not-next (f .rt) e 9 refl)
+in-frame n f x e false false =
+    rw (not-next (f .rt) e 7 refl, not-next (f .rt) e 8 refl, not-next (f .rt) e 9 refl, not-next (f .rt) e 15 refl)
+
+no-start : (framing ones x : Bool) → (not ones || x) ≡ true → (not framing && ones && not x) ≡ false
+no-start true ones x h = refl
+no-start false true true h = refl
+no-start false true false h = sym h
+no-start false false x h = refl
+
+moves : (n : ℕ) (f : Framer) (ones x : Bool) → rests f ones x ≡ true → framed n f ones x ≡ rested f
+unfolding rests rested framed
+moves n f ones x h = go (f .framing) h
+  where
+    go : (b : Bool) → cond b (not (busy (f .rt))) (not ones || x) ≡ true →
+        cond b (inBit (f .starting) (eqb (f .left) 0) n f (nextRt f) x) (searched (begins f ones x) f n)
+        ≡ cond b (atRt f (nextRt f)) f
+    go true h = in-frame n f x (not-true (busy (f .rt)) h) (f .starting) (eqb (f .left) 0)
+    go false h = rw (no-start (f .framing) ones x h)
+
+-- What a frame does not do where it rests.
+record Resting (f : Framer) (ones x : Bool) : Type 0 where
+  begun : begins f ones x ≡ false
+  abandoned : abandons f x ≡ false
+  ended : ends f ≡ false
+
+resting : (f : Framer) (ones x : Bool) → rests f ones x ≡ true → Resting f ones x
+unfolding rests
+resting f ones x h = go (f .framing) refl h
+  where
+    go : (b : Bool) → f .framing ≡ b → cond b (not (busy (f .rt))) (not ones || x) ≡ true → Resting f ones x
+    go true e h =
+        let idle : busy (f .rt) ≡ false = not-true (busy (f .rt)) h in
+        record {
+          begun = rw e;
+          abandoned = third (f .framing) (f .starting) (eqb (f .rt) 6) _ (not-now (f .rt) idle 6 (omega arith) refl);
+          ended = rw (not-now (f .rt) idle 9 (omega arith) refl, and-false);
+        }
+    go false e h = record { begun = no-start (f .framing) ones x h; abandoned = rw e; ended = rw e }
+
+pub passes : (r : Receiver) (s : Status) (sccr1 : ℕ) (x : Bool) → plain r (bitsOf (M sccr1)) x ≡ true →
+    _≡_ {A = Received} (record { receiver = passed r (bitsOf (M sccr1)) x; status = s }) (received r s sccr1 x)
+unfolding plain passed received receiverAfter outcome statusAfter entered raiseIf fallIf
+passes r s sccr1 x h =
+    let rest : rests (r .framer) (three r) x ≡ true = first (rests (r .framer) (three r) x) _ h in
+    let below : (x && reaches r (bitsOf (M sccr1))) ≡ false = not-true _ (second (rests (r .framer) (three r) x) _ h) in
+    let none : Resting (r .framer) (three r) x = resting (r .framer) (three r) x rest in
+    rw (moves (bitsOf (M sccr1)) (r .framer) (three r) x rest, none .begun, none .abandoned, none .ended) (simp and-true (rw (below, and-true)))
+
+pub shifts : (t : Transmitter) (s : Status) (sccr1 : ℕ) → turns t s sccr1 ≡ false →
+    _≡_ {A = Sent} (record { transmitter = shifted t; status = s }) (sent t s sccr1)
+unfolding turns shifted sent raiseIf
+shifts t s sccr1 h =
+    let over : ended t ≡ false = none₁ (ended t) (beginsPreamble t sccr1) (beginsFrame t s sccr1) h in
+    let preamble : beginsPreamble t sccr1 ≡ false = none₂ (ended t) (beginsPreamble t sccr1) (beginsFrame t s sccr1) h in
+    let frame : beginsFrame t s sccr1 ≡ false = none₃ (ended t) (beginsPreamble t sccr1) (beginsFrame t s sccr1) h in
+    rw (over, preamble, frame, and-true)

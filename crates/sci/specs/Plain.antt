@@ -1,0 +1,54 @@
+-- Samples that change little, and what they change. (proofs/Plain shows that `received` and `sent` say the same.)
+use mathlib.Core.Bool.{Bool, cond, not, _&&_, _||_}
+use Prim.Native.Nat.{ℕ, _+_, _-_, _%_}
+use lib.Dec.{eqb}
+use Rattle.steps.specs.Bits.{bit}
+use Rattle.sci.specs.Control.{frameSamples}
+use Rattle.sci.specs.Framer.{atRt, nextRt}
+use Rattle.sci.specs.Receiver.{three, reaches, idleCount}
+use Rattle.sci.specs.Transmitter.{ends, beginsPreamble, beginsFrame, passed as halved}
+use Rattle.sci.specs.declared.framer.Framer.{Framer}
+use Rattle.sci.specs.declared.receiver.Receiver.{Receiver}
+use Rattle.sci.specs.declared.status.Status.{Status}
+use Rattle.sci.specs.declared.transmitter.Transmitter.{Transmitter}
+
+-- After RT rt comes RT3, RT5, RT7 to RT10 or RT16: the bits 2, 4, 6 to 9 and 15.
+abbrev pub busy : ℕ → Bool
+busy rt = bit (rt % 16) 33748
+
+-- In a frame no bit is sampled, voted on or ended; out of it no start bit begins.
+unfoldable pub rests : Framer → Bool → Bool → Bool
+rests f three x = cond (f .framing) (not (busy (f .rt))) (not three || x)
+
+unfoldable pub rested : Framer → Framer
+rested f = cond (f .framing) (atRt f (nextRt f)) f
+
+-- Nor does the idle count get to its limit.
+unfoldable pub plain : Receiver → ℕ → Bool → Bool
+plain r n x = rests (r .framer) (three r) x && not (x && reaches r n)
+
+unfoldable pub passed : Receiver → ℕ → Bool → Receiver
+passed r n x =
+    record {
+      framer = rested (r .framer);
+      last1 = x;
+      last2 = r .last1;
+      last3 = r .last2;
+      idle = idleCount x (r .idle) (frameSamples n);
+      since = r .since;
+      asleep = r .asleep;
+      scdr = r .scdr;
+    }
+
+-- A frame or preamble ends or begins.
+unfoldable pub turns : Transmitter → Status → ℕ → Bool
+turns t s sccr1 = ends t || beginsPreamble t sccr1 || beginsFrame t s sccr1
+
+unfoldable pub shifted : Transmitter → Transmitter
+shifted t =
+    record {
+      scdr = t .scdr;
+      preamble = t .preamble;
+      shift = halved (eqb ((t .left - 1) % 16) 0) (t .shift);
+      left = t .left - 1;
+    }
