@@ -1,23 +1,25 @@
 -- Samples that change little: there `received` and `sent` come to the short forms.
-use Prim.Native.Nat.{ℕ, _+_, _%_, _<_}
+use Prim.Native.Nat.{ℕ, _+_, _/_, _%_, _<_}
 use mathlib.Core.Bool.{Bool, true, false, not, cond, _&&_, _||_, and-true, and-false, or-false}
 use mathlib.Core.Path.{_≡_, refl, sym}
 use native.Mathlib.Omega.{arith}
 use lib.Dec.{eqb, leb}
 use borrow.Author.Tests.{ne-eqb, eqb-false, leb-true, not-true}
 use Rattle.steps.specs.Bits.{bit}
-use Rattle.sci.specs.Control.{M, bitsOf}
+use Rattle.sci.specs.Control.{M, TIE, TCIE, RIE, ILIE, RE, bitsOf}
 use Rattle.sci.specs.Framer.{begins, abandons, ends, searched, atRt, startBit, dataBit, stopBit, inBit, nextRt, framed}
 use Rattle.sci.specs.Status.{raiseIf, fallIf}
 use Rattle.sci.specs.Receiver.{three, reaches, outcome, entered, statusAfter, receiverAfter, received}
 use Rattle.sci.specs.Transmitter.{beginsPreamble, beginsFrame, ends as ended, sent}
-use Rattle.sci.specs.Plain.{busy, rests, rested, plain, passed, turns, shifted}
+use Rattle.sci.specs.Serial.{afterReceived, heard, afterSent, sampled, asks}
+use Rattle.sci.specs.Plain.{busy, rests, rested, plain, passed, listened, turns, shifted}
 use Rattle.sci.specs.declared.status.Status.{Status}
 use Rattle.sci.specs.declared.framer.Framer.{Framer}
 use Rattle.sci.specs.declared.receiver.Receiver.{Receiver}
 use Rattle.sci.specs.declared.receiver.Received.{Received}
 use Rattle.sci.specs.declared.transmitter.Transmitter.{Transmitter}
 use Rattle.sci.specs.declared.transmitter.Sent.{Sent}
+use Rattle.sci.specs.declared.serial.Sci.{Sci}
 
 -- Tests that fail, one of several.
 first : (a b : Bool) → (a && b) ≡ true → a ≡ true
@@ -144,3 +146,23 @@ shifts t s sccr1 h =
     let preamble : beginsPreamble t sccr1 ≡ false = none₂ (ended t) (beginsPreamble t sccr1) (beginsFrame t s sccr1) h in
     let frame : beginsFrame t s sccr1 ≡ false = none₃ (ended t) (beginsPreamble t sccr1) (beginsFrame t s sccr1) h in
     rw (over, preamble, frame, and-true)
+
+-- One sample, put together from the transmitter's and the receiver's.
+pub samples : (s : Sci) (x : Bool) →
+    let t : Sent = sent (s .transmitter) (s .status) (s .sccr1) in
+    afterReceived (afterSent s t) (listened (RE (s .sccr1)) (s .receiver) (t .status) (s .sccr1) x) ≡ sampled s x
+unfolding sampled
+samples s x = go (RE (s .sccr1)) (afterSent s (sent (s .transmitter) (s .status) (s .sccr1)))
+  where
+    go : (re : Bool) (s : Sci) → afterReceived s (listened re (s .receiver) (s .status) (s .sccr1) x) ≡ heard re s x
+    go true s = refl
+    go false s = refl
+
+-- With TIE, TCIE, RIE and ILIE clear nothing asks.
+pub masked : (s : Sci) → s .sccr1 / 16 % 16 ≡ 0 → asks s ≡ false
+masked s h =
+    let tie : TIE (s .sccr1) ≡ false = ne-eqb (s .sccr1 / 128 % 2) 1 (λ v. omega arith) in
+    let tcie : TCIE (s .sccr1) ≡ false = ne-eqb (s .sccr1 / 64 % 2) 1 (λ v. omega arith) in
+    let rie : RIE (s .sccr1) ≡ false = ne-eqb (s .sccr1 / 32 % 2) 1 (λ v. omega arith) in
+    let ilie : ILIE (s .sccr1) ≡ false = ne-eqb (s .sccr1 / 16 % 2) 1 (λ v. omega arith) in
+    rw (tie, tcie, rie, ilie) (simp and-false)

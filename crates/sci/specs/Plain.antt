@@ -1,14 +1,15 @@
 -- Samples that change little, and what they change. (proofs/Plain shows that `received` and `sent` say the same.)
-use mathlib.Core.Bool.{Bool, cond, not, _&&_, _||_}
+use mathlib.Core.Bool.{Bool, true, false, cond, not, _&&_, _||_}
 use Prim.Native.Nat.{ℕ, _+_, _-_, _%_}
 use lib.Dec.{eqb}
 use Rattle.steps.specs.Bits.{bit}
 use Rattle.sci.specs.Control.{frameSamples}
 use Rattle.sci.specs.Framer.{atRt, nextRt}
-use Rattle.sci.specs.Receiver.{three, reaches, idleCount}
+use Rattle.sci.specs.Receiver.{three, reaches, idleCount, received}
 use Rattle.sci.specs.Transmitter.{ends, beginsPreamble, beginsFrame, passed as halved}
 use Rattle.sci.specs.declared.framer.Framer.{Framer}
 use Rattle.sci.specs.declared.receiver.Receiver.{Receiver}
+use Rattle.sci.specs.declared.receiver.Received.{Received}
 use Rattle.sci.specs.declared.status.Status.{Status}
 use Rattle.sci.specs.declared.transmitter.Transmitter.{Transmitter}
 
@@ -39,6 +40,11 @@ passed r n x =
       asleep = r .asleep;
       scdr = r .scdr;
     }
+
+-- With RE clear the receiver does not sample.
+abbrev pub listened : Bool → Receiver → Status → ℕ → Bool → Received
+listened true r s sccr1 x = received r s sccr1 x
+listened false r s sccr1 x = record { receiver = r; status = s }
 
 -- A frame or preamble ends or begins.
 unfoldable pub turns : Transmitter → Status → ℕ → Bool

@@ -14,17 +14,17 @@ use crate::status::Status;
 
 pub struct Receiver {
     pub framer: Framer,
+    // SCDR as it is read, and whether a frame has entered it since the idle count last got to its limit.
+    pub scdr: u16,
+    pub since: bool,
     // The last three samples since RE rose, latest first.
     pub last1: bool,
     pub last2: bool,
     pub last3: bool,
-    // Consecutive ones, up to a frame's samples, and whether a frame has entered SCDR since they last got there.
+    // Consecutive ones, up to a frame's samples.
     pub idle: u8,
-    pub since: bool,
     // RWU.
     pub asleep: bool,
-    // SCDR as it is read.
-    pub scdr: u16,
 }
 
 // What a sample makes happen: a start bit begun or abandoned; a frame taken, which may be lost; one more sample of an idle line, and the

@@ -2,10 +2,12 @@
 ghost use mathlib.Core.Path.{_≡_};
 ghost use Prim.Native.Nat.{_+_, _%_, min};
 ghost use Rattle.sci.specs.Control.{sccr0Bits};
-ghost use Rattle.sci.specs.Serial.{resetSci, active, due, heard, sampled, counted, prescaled, clocked, sccr1Word, withStatus, statusRead, dataRead, loaded, dataWritten, withSccr0, sccr0Set, wroteSccr0, stopped, withSccr1, wroteSccr1, sccr0Guarded, sccr1Guarded, txdDriven, txd, asks};
+ghost use Rattle.sci.specs.Serial.{resetSci, active, due, sampled, counted, prescaled, clocked, sccr1Word, withStatus, statusRead, dataRead, loaded, dataWritten, withSccr0, sccr0Set, wroteSccr0, stopped, withSccr1, wroteSccr1, sccr0Guarded, sccr1Guarded, txdDriven, txd, asks};
+ghost use Rattle.sci.specs.Plain.{listened};
 use crate::control;
 use crate::flags::Flags;
 use crate::framer::Framer;
+use crate::receiver::Received;
 use crate::receiver::Receiver;
 use crate::status::Status;
 use crate::transmitter::Transmitter;
@@ -14,9 +16,9 @@ pub struct Sci {
     // SCCR0, and SCCR1 without RWU, which the receiver keeps.
     pub sccr0: u16,
     pub sccr1: u16,
-    pub status: Status,
     // Clocks since the last sample.
     pub prescaler: u16,
+    pub status: Status,
     pub receiver: Receiver,
     pub transmitter: Transmitter,
 }
@@ -70,24 +72,6 @@ impl Sci {
         (period != 0) & (period <= (self.prescaler as u32) + 1)
     }
 
-    fn heard(self, re: bool, x: bool) -> Sci
-        ensures { λ r. ⌜ r ≡ heard re self x ⌝ }
-    {
-        if re {
-            let receiver = self.receiver;
-            let status = self.status;
-            let received = receiver.sample(status, self.sccr1, x);
-            let after = received.receiver;
-            let flags = received.status;
-            let mut next = self;
-            next.receiver = after;
-            next.status = flags;
-            next
-        } else {
-            self
-        }
-    }
-
     // One sample: transmitter before receiver.
     // Ruled out: a receiver that samples with RE clear; a transmitter that stands still.
     pub fn sample(self, x: bool) -> Sci
@@ -95,14 +79,21 @@ impl Sci {
     {
         let transmitter = self.transmitter;
         let status = self.status;
+        let receiver = self.receiver;
         let sent = transmitter.sample(status, self.sccr1);
-        let after = sent.transmitter;
+        let sender = sent.transmitter;
         let flags = sent.status;
-        let mut next = self;
-        next.prescaler = 0;
-        next.transmitter = after;
-        next.status = flags;
-        next.heard(control::re(self.sccr1), x)
+        let received = listened(control::re(self.sccr1), receiver, flags, self.sccr1, x);
+        let hearer = received.receiver;
+        let after = received.status;
+        Sci {
+            sccr0: self.sccr0,
+            sccr1: self.sccr1,
+            prescaler: 0,
+            status: after,
+            receiver: hearer,
+            transmitter: sender,
+        }
     }
 
     fn counted(mut self) -> Sci
@@ -307,17 +298,31 @@ impl Sci {
         transmitter.level()
     }
 
-    // Whether SCI asks for an interrupt.
+    // Whether SCI asks for an interrupt: never with TIE, TCIE, RIE and ILIE all clear.
     // Ruled out: a request masked by RWU; OR that needs RDRF.
     pub fn asks(self) -> bool
         ensures { λ r. ⌜ r ≡ asks self ⌝ }
     {
         let s = self.status;
         let c = self.sccr1;
+        if c / 16 % 16 == 0 {
+            return false;
+        }
         (s.has(Flags::TDRE) & control::tie(c))
             | (s.has(Flags::TC) & control::tcie(c))
             | ((s.has(Flags::RDRF) | s.has(Flags::OR)) & control::rie(c))
             | (s.has(Flags::IDLE) & control::ilie(c))
+    }
+}
+
+// With RE clear the receiver does not sample.
+fn listened(re: bool, receiver: Receiver, status: Status, sccr1: u16, x: bool) -> Received
+    ensures { λ r. ⌜ r ≡ listened re receiver status sccr1 x ⌝ }
+{
+    if re {
+        receiver.sample(status, sccr1, x)
+    } else {
+        Received { receiver, status }
     }
 }
 

@@ -9,14 +9,13 @@ use crate::flags::Flags;
 use crate::status::Status;
 
 pub struct Transmitter {
-    // SCDR as it is written: the data register, nine bits.
-    pub scdr: u16,
     // A preamble is queued.
     pub preamble: bool,
-    // The bits of the frame or preamble that runs, the one on TXD lowest, and the samples that are left of it: none where the shifter is
-    // free.
-    pub shift: u16,
+    // The samples that are left of the frame or preamble that runs, none where the shifter is free, and its bits, the one on TXD lowest.
     pub left: u8,
+    pub shift: u16,
+    // SCDR as it is written: the data register, nine bits.
+    pub scdr: u16,
 }
 
 // The transmitter and the status flags after a sample.

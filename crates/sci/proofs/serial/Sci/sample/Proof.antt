@@ -1,11 +1,14 @@
-use Rattle.sci.specs.Serial.{sampled}
 use borrow.Author.Needs.{needs}
+use Rattle.sci.specs.Serial.{sampled}
+use Rattle.sci.proofs.Plain.{samples}
 use Rattle.sci.proofs.serial.Sci.sample.Statement.{statement}
 use Rattle.sci.proofs.serial.Sci.sample.Tie as tie
 
 returns : tie.Need-returns
 unfolding sampled
-returns c = rw (c .heard .ensures, c .before .re .ensures, c .before .before .before .before .sample .ensures)
+returns c =
+    rw (c .before .before .listened .ensures, c .before .before .before .re .ensures, c .before .before .before .before .before .before .sample .ensures)
+    (samples (c .before .before .before .before .before .before .before .before .before .before .args .self) (c .before .before .before .before .before .before .before .before .before .before .args .x))
 
 pub sample-spec : {M : Type 1} → statement M
 sample-spec = tie.close (tie.spec (λ c κs. search needs) (λ c κs. search needs) (λ c κs. search needs) returns)
