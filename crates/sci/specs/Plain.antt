@@ -1,4 +1,4 @@
--- Samples that change little, and what they change. (proofs/Plain shows that `received` and `sent` say the same.)
+-- Samples that change little, and what they change. (proofs/Plain shows that `received` and `sent` say the same there.)
 use mathlib.Core.Bool.{Bool, true, false, cond, not, _&&_, _||_}
 use Prim.Native.Nat.{ℕ, _+_, _-_, _%_}
 use lib.Dec.{eqb}

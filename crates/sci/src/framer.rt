@@ -97,8 +97,7 @@ impl Framer {
         }
     }
 
-    // Whether a sample changes nothing but RT: no start bit begins, and its RT is none at which a bit is sampled, voted on or ended, as
-    // RT3, RT5, RT7 to RT10 and RT16 are.
+    // Whether a sample changes nothing but RT: no start bit begins, and its RT is none at which a bit is sampled, voted on or ended.
     // Ruled out: RT3 of a start bit passed over; a start bit passed over.
     pub fn rests(self, three: bool, x: bool) -> bool
         ensures { λ r. ⌜ r ≡ rests self three x ⌝ }
@@ -260,7 +259,7 @@ impl Framer {
     }
 }
 
-// Whether something is done at the RT after this one.
+// Whether something is done at the RT after this one: RT3, RT5, RT7 to RT10 and RT16, as the bits 2, 4, 6 to 9 and 15.
 fn busy(rt: u8) -> bool
     ensures { λ r. ⌜ r ≡ busy rt ⌝ }
 {
