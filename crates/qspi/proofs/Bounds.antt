@@ -1,6 +1,6 @@
 -- Bounds of an entry's numbers, for every register word and command byte.
 use mathlib.Core.Bool.{Bool, true, false, cond}
-use Prim.Native.Nat.{ℕ, zero, suc, _≤_, _*_, _/_, _%_}
+use Prim.Native.Nat.{ℕ, zero, suc, _≤_, _*_}
 use native.Mathlib.Omega.{arith}
 use lib.Dec.{eqb}
 use borrow.Author.Tests.{ne-eqb}

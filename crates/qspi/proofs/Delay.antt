@@ -1,6 +1,6 @@
 -- The delay after edge 2n, and where the queue goes from there. Assumes nothing.
 use mathlib.Core.Path.{_≡_, refl, sym, ap, subst, _∙_}
-use mathlib.Core.Bool.{Bool, true, false, not, cond, _&&_, _||_}
+use mathlib.Core.Bool.{Bool, true, false, not, _&&_, _||_}
 use Prim.Native.Nat.{ℕ, zero, suc, _+_, _-_, _*_, _/_, _%_, _≤_, _<_}
 use native.Mathlib.Nat.{add-zero, add-suc, zero-add, div-one}
 use native.Mathlib.Omega.{arith}
@@ -8,7 +8,7 @@ use lib.Dec.{eqb, leb}
 use borrow.Author.Tests.{lt-leb, ne-eqb, eqb-false}
 use Rattle.steps.specs.Bits.{bit}
 use Rattle.qspi.specs.Fields.{spbr, spe, wren, endqp, halt, cont}
-use Rattle.qspi.specs.Queue.{clock, queueClock, startClock, delayClock, entryAt, ready, selected, stored, finished, wrapped, advanced}
+use Rattle.qspi.specs.Queue.{clock, queueClock, startClock, delayClock, entryAt, selected, stored, finished, wrapped, advanced}
 use Rattle.qspi.specs.Entry.{run, entry, bitsIn, spbrIn, delayIn, lastClock, lengthIn, during, waiting, waited, stopped}
 use Rattle.qspi.specs.Laws.{Starting, Calm, Halted, goesOn, DelayRuns, NextStarts, HaltComes, HaltHolds, HaltReleases, QueueEnds}
 use Rattle.qspi.specs.declared.Qspi.{Qspi}

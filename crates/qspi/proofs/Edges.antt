@@ -8,7 +8,7 @@ use lib.Dec.{leb}
 use Rattle.steps.specs.Iterate.{iterate}
 use borrow.Author.Tests.{lt-leb, le-leb, leb-true}
 use Rattle.qspi.specs.Fields.{mstr, spe}
-use Rattle.qspi.specs.Queue.{clock, queueClock, playClock, startClock, edge, misoOf, selected, faultNow, ready, judged, completed}
+use Rattle.qspi.specs.Queue.{clock, queueClock, playClock, startClock, edge, misoOf, selected, faultNow, judged, completed}
 use Rattle.qspi.specs.Entry.{run, entry, bitsIn, preIn, spbrIn, edgeClock, gap, lastClock, during, mosiBy, collectedBy}
 use Rattle.qspi.specs.Laws.{Starting, Calm, HoldRuns, EdgeFormula, EdgesFall, LastEdge}
 use Rattle.qspi.specs.declared.Qspi.{Qspi}

@@ -7,3 +7,5 @@ pub mod Delay
 pub mod Order
 pub mod Marked
 pub mod Lines
+pub mod Begun
+pub mod Quiet

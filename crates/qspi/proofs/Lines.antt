@@ -1,21 +1,18 @@
 -- What SCK and the PCS show in an entry, and what abandons one. Assumes nothing.
 use mathlib.Core.Path.{_≡_, refl, sym, ap, subst, _∙_}
-use mathlib.Core.Bool.{Bool, true, false, not, cond, _&&_, _||_}
-use Prim.Native.Nat.{ℕ, zero, suc, _+_, _*_, _/_, _%_, _≤_, _<_}
+use mathlib.Core.Bool.{Bool, true, false, cond, _||_}
+use Prim.Native.Nat.{ℕ, zero, suc, _/_, _%_}
 use native.Mathlib.Nat.{add-zero}
 use native.Mathlib.Omega.{arith}
-use lib.Dec.{eqb}
-use borrow.Author.Tests.{ne-eqb, eqb-true, eqb-false, eq-eqb}
+use borrow.Author.Tests.{ne-eqb, eqb-false}
 use Rattle.steps.specs.Bits.{merge}
-use Rattle.qspi.specs.Fields.{cpol, spe, mstr, cont, pcsField}
+use Rattle.qspi.specs.Fields.{spe, cont, pcsField}
 use Rattle.qspi.specs.Registers.{switched, writeSpcr1}
-use Rattle.qspi.specs.Queue.{clock, queueClock, faultNow, faulted, selected}
+use Rattle.qspi.specs.Queue.{clock, queueClock, faulted}
 use Rattle.qspi.specs.Outputs.{sck, pcs}
 use Rattle.qspi.specs.State.{withSpcr1}
-use Rattle.qspi.specs.Entry.{run, entry, delayIn, lastClock, waiting}
-use Rattle.qspi.specs.Laws.{Starting, Calm, goesOn, SckTurns, SckRests, PcsShow, PcsDelay, Abandoned, FaultAbandons, WriteAbandons}
-use Rattle.qspi.specs.declared.Qspi.{Qspi}
-use Rattle.qspi.specs.declared.Pins.{Pins}
+use Rattle.qspi.specs.Entry.{run, entry, lastClock}
+use Rattle.qspi.specs.Laws.{SckTurns, SckRests, PcsShow, PcsDelay, Abandoned, FaultAbandons, WriteAbandons}
 use Rattle.qspi.proofs.Completed.{completed-keeps}
 use Rattle.qspi.proofs.Edges.{edges-fall, last-edge}
 use Rattle.qspi.proofs.Delay.{field-on, delay-runs, no-spe}

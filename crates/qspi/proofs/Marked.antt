@@ -1,16 +1,14 @@
 -- K7 to K10 from the laws. Assumes nothing.
-use mathlib.Core.Path.{_≡_, refl, sym, ap, _∙_}
-use mathlib.Core.Bool.{Bool, true, false}
-use Prim.Native.Nat.{ℕ, zero, suc, _+_, _-_, _*_, _%_, _≤_, _<_}
+use mathlib.Core.Path.{_≡_, refl, ap}
+use mathlib.Core.Bool.{true, false}
+use Prim.Native.Nat.{ℕ, zero, suc, _*_, _≤_}
 use native.Mathlib.Nat.{mul-le-mul}
 use native.Mathlib.Omega.{arith}
 use Rattle.qspi.specs.Fields.{spe, spbr, bitsOf, preDelay, delayAfter}
 use Rattle.qspi.specs.Registers.{reset, writeSpcr1}
 use Rattle.qspi.specs.Entry.{run, edgeAt, lengthOf, beginsAt}
-use Rattle.qspi.specs.Laws.{Starting, Calm}
+use Rattle.qspi.specs.Laws.{Starting}
 use Rattle.qspi.specs.Marked.{setUp, plain, around, longest, K7, K8, K9, K10}
-use Rattle.qspi.specs.declared.Qspi.{Qspi}
-use Rattle.qspi.specs.declared.Pins.{Pins}
 use Rattle.qspi.proofs.Bounds.{bits-small, pre-small, delay-small}
 use Rattle.qspi.proofs.Edges.{edges-fall}
 use Rattle.qspi.proofs.Delay.{in-delay, next-starts}

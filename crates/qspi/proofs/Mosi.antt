@@ -1,18 +1,17 @@
 -- MOSI shows the low n bits of the word, highest first. Assumes nothing.
 use mathlib.Core.Path.{_≡_, refl, sym, ap, _∙_}
-use mathlib.Core.Bool.{Bool, true, false, not, cond, _&&_}
-use Prim.Native.Nat.{ℕ, zero, suc, _+_, _-_, _*_, _/_, _%_, _≤_, _<_}
+use mathlib.Core.Bool.{Bool, true, false}
+use Prim.Native.Nat.{ℕ, zero, suc, _-_, _*_, _/_, _%_, _≤_, _<_}
 use native.Mathlib.Nat.{mod-eq-of-lt}
 use native.Mathlib.Omega.{arith}
-use lib.Dec.{eqb, ltb}
+use lib.Dec.{eqb}
 use borrow.Author.Tests.{eq-eqb, ne-eqb, eqb-true, eqb-false, lt-ltb, le-ltb}
 use Rattle.steps.specs.Bits.{bit}
 use Rattle.qspi.specs.Fields.{cpha}
 use Rattle.qspi.specs.Queue.{bitOut, mosiAfter}
-use Rattle.qspi.specs.Entry.{run, entry, bitsIn, spbrIn, edgeClock, gap, lastClock, during, mosiBy, bitShown}
-use Rattle.qspi.specs.Laws.{Starting, Calm, MosiShows, MosiHolds}
+use Rattle.qspi.specs.Entry.{entry, bitsIn, mosiBy, bitShown}
+use Rattle.qspi.specs.Laws.{MosiShows, MosiHolds}
 use Rattle.qspi.specs.declared.Qspi.{Qspi}
-use Rattle.qspi.specs.declared.Pins.{Pins}
 use Rattle.qspi.proofs.Bounds.{bits-small, bits-pos}
 use Rattle.qspi.proofs.Completed.{completed-keeps}
 use Rattle.qspi.proofs.Edges.{edges-fall, last-edge}

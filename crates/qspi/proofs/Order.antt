@@ -1,7 +1,6 @@
 -- Entries run from the pointer to ENDQP modulo 16. Assumes nothing.
 use mathlib.Core.Path.{_≡_, refl, sym, ap, subst, _∙_}
 use mathlib.Core.Bool.{Bool, true, false, not, cond, _||_, true≢false}
-use mathlib.Core.List.{List}
 use Prim.Native.Nat.{ℕ, zero, suc, _+_, _-_, _*_, _%_, _≤_, _<_}
 use native.Mathlib.Nat.{mod-eq-of-lt}
 use native.Mathlib.Omega.{arith}
@@ -10,7 +9,7 @@ use lib.ListN.{getD}
 use borrow.Author.Tests.{eq-eqb, ne-eqb}
 use Rattle.qspi.specs.Fields.{spe, wren, wrto, endqp, newqp, halt}
 use Rattle.qspi.specs.Queue.{clock, queueClock, clockIf, clockAt, startClock, startIf, delayClock, delayed, playClock, counted, edge, judged, edgeFallen, completed, followed, faulted, faultNow, misoOf, ready, entryAt, stored, advanced, wrapped, wrapTo}
-use Rattle.qspi.specs.Entry.{run, entry, bitsIn, preIn, spbrIn, edgeClock, gap, lastClockOf, lastClock, lengthOf, lengthIn, during, waited, entryNo, commandNo, beginsAt, entriesBefore, endsAt}
+use Rattle.qspi.specs.Entry.{run, entry, bitsIn, preIn, spbrIn, edgeClock, gap, lastClockOf, lastClock, lengthOf, lengthIn, during, waited, entryNo, commandNo, beginsAt, entriesBefore}
 use Rattle.qspi.specs.Laws.{Starting, Calm, goesOn, Before, QueueOver, EntriesRun, QueueWraps, LastOfQueue, NotSooner}
 use Rattle.qspi.specs.declared.Qspi.{Qspi}
 use Rattle.qspi.specs.declared.Pins.{Pins}

@@ -1,6 +1,6 @@
 -- The word stored is the bits that stood on MISO at the reading edges. Assumes nothing.
-use mathlib.Core.Path.{_≡_, refl, sym, ap, subst, _∙_}
-use mathlib.Core.Bool.{Bool, true, false, not, cond}
+use mathlib.Core.Path.{_≡_, refl, sym, ap, _∙_}
+use mathlib.Core.Bool.{Bool, true, false, cond}
 use Prim.Native.Nat.{ℕ, zero, suc, _+_, _-_, _*_, _/_, _%_, _^_, _≤_, _<_}
 use native.Mathlib.Nat.{mod-eq-of-lt, div-one, div-div-eq-div-mul, pow-suc, pow-succ', pow-le-pow-right}
 use native.Mathlib.Omega.{arith}
@@ -9,12 +9,12 @@ use lib.ListN.{set}
 use borrow.Author.Tests.{eq-eqb, ne-eqb, eqb-true, eqb-false}
 use Rattle.steps.specs.Bits.{bit, digit}
 use Rattle.qspi.specs.Fields.{cpha}
-use Rattle.qspi.specs.Queue.{pushed, collectedAfter, entryAt, misoOf, stored}
-use Rattle.qspi.specs.Entry.{run, entry, bitsIn, spbrIn, edgeClock, lastClock, during, collectedBy, readingEdge, wordOf, bitsRead}
-use Rattle.qspi.specs.Laws.{Starting, Calm, WordStored, UnusedZero, BitsInOrder}
+use Rattle.qspi.specs.Queue.{pushed, collectedAfter, entryAt, misoOf}
+use Rattle.qspi.specs.Entry.{entry, bitsIn, edgeClock, collectedBy, readingEdge, wordOf, bitsRead}
+use Rattle.qspi.specs.Laws.{WordStored, UnusedZero, BitsInOrder}
 use Rattle.qspi.specs.declared.Qspi.{Qspi}
 use Rattle.qspi.specs.declared.Pins.{Pins}
-use Rattle.qspi.proofs.Bounds.{bits-small, bits-pos}
+use Rattle.qspi.proofs.Bounds.{bits-small}
 use Rattle.qspi.proofs.Completed.{completed-keeps}
 use Rattle.qspi.proofs.Mosi.{by-test, by-parity}
 use Rattle.qspi.proofs.Edges.{last-edge}

@@ -3,6 +3,7 @@ pub mod Fields
 pub mod Registers
 pub mod Ram
 pub mod Queue
+pub mod Quiet
 pub mod Outputs
 pub mod Entry
 pub mod Laws

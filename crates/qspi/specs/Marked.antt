@@ -1,6 +1,6 @@
 -- The marked examples K7 to K10.
 use mathlib.Core.Path.{_≡_}
-use mathlib.Core.Bool.{Bool, true, false}
+use mathlib.Core.Bool.{true, false}
 use Prim.Native.Nat.{ℕ, _≤_}
 use Rattle.qspi.specs.Fields.{spe}
 use Rattle.qspi.specs.Registers.{reset, writeSpcr0, writeSpcr1, writeSpcr2}

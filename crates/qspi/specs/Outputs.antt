@@ -1,8 +1,7 @@
 -- What the queue puts on SCK, MOSI and the four PCS, and whether it asks for an interrupt.
-use mathlib.Core.Bool.{Bool, true, false, cond, not, _&&_, _||_}
+use mathlib.Core.Bool.{Bool, cond, not, _&&_, _||_}
 use Prim.Native.Nat.{ℕ, _/_, _%_}
 use lib.Dec.{eqb}
-use Rattle.steps.specs.Bits.{bit}
 use Rattle.qspi.specs.Fields.{cpol, spe, spifie, hmie, pcsField}
 use Rattle.qspi.specs.declared.Qspi.{Qspi}
 

@@ -1,6 +1,5 @@
 -- The queue RAM: sixteen receive words, transmit words and command bytes, read and written by words and their byte lanes.
-use mathlib.Core.Bool.{Bool, cond}
-use mathlib.Core.List.{List}
+use mathlib.Core.Bool.{Bool}
 use Prim.Native.Nat.{ℕ, _+_, _*_, _%_}
 use lib.ListN.{getD, set}
 use Rattle.steps.specs.Bits.{word, merge, upperByte, lowerByte}

@@ -1,8 +1,9 @@
 // Fields of the queue's registers and of a command byte, and what they mean in bits and clocks.
 ghost use mathlib.Core.Path.{_≡_};
 ghost use mathlib.Core.Bool.{cond};
+ghost use Prim.Native.Nat.{_-_};
 ghost use Rattle.steps.specs.Bits.{bit};
-ghost use Rattle.qspi.specs.Fields.{mstr, bitsField, cpol, cpha, spbr, spe, dsckl, dtl, spifie, wren, wrto, endqp, newqp, hmie, halt, cont, bitse, dt, dsck, zeroMeans, bitsOf, preDelay, delayAfter};
+ghost use Rattle.qspi.specs.Fields.{mstr, cpol, cpha, spbr, spe, wren, halt, cont, zeroMeans, bitsOf, preDelay, delayAfter};
 
 // Ruled out: the choice the other way round; always the first.
 pub fn choose_word(first: bool, a: u16, b: u16) -> u16
@@ -16,6 +17,13 @@ pub fn choose_bit(first: bool, a: bool, b: bool) -> bool
     ensures { λ r. ⌜ r ≡ cond first a b ⌝ }
 {
     if first { a } else { b }
+}
+
+// Ruled out: a wrapped difference; the operands swapped.
+pub fn minus(a: u16, b: u16) -> u16
+    ensures { λ r. ⌜ r ≡ a - b ⌝ }
+{
+    if b < a { a - b } else { 0 }
 }
 
 // Ruled out: another bit; the bit inverted.

@@ -1,7 +1,8 @@
 // One clock of the queue: clock 1 of an entry, its edges, what edge 2n leaves, the delay, halt and mode fault.
 ghost use mathlib.Core.Path.{_≡_};
-ghost use Prim.Native.Nat.{_-_, _<_};
-ghost use Rattle.qspi.specs.Queue.{wrapTo, changes, bitOut, mosiAfter, pushed, collectedAfter, entryAt, loaded, started, edgeFallen, stored, finished, wrapped, advanced, followed, completed, judged, edge, counted, playClock, inDelay, delayOver, delayed, delayClock, ready, startClock, clockAt, queueClock, misoOf, selected, faultNow, faulted, clock};
+ghost use mathlib.Core.Bool.{cond};
+ghost use Prim.Native.Nat.{_<_};
+ghost use Rattle.qspi.specs.Queue.{wrapTo, changes, bitOut, mosiAfter, pushed, collectedAfter, entryAt, loaded, started, edgeFallen, stored, finished, wrapped, advanced, followed, completed, judged, edge, counted, playClock, delayed, delayClock, ready, clockAt, queueClock, misoOf, selected, faultNow, faulted, clock};
 use crate::Pins;
 use crate::Qspi;
 use crate::fields::bit_0;
@@ -12,18 +13,13 @@ use crate::fields::cont;
 use crate::fields::cpha;
 use crate::fields::delay_after;
 use crate::fields::halt;
+use crate::fields::minus;
 use crate::fields::mstr;
 use crate::fields::pre_delay;
 use crate::fields::spbr;
 use crate::fields::spe;
 use crate::fields::wren;
 use steps::choose;
-
-fn minus(a: u16, b: u16) -> u16
-    ensures { λ r. ⌜ r ≡ a - b ⌝ }
-{
-    if b < a { a - b } else { 0 }
-}
 
 // MOSI changes on this edge.
 fn changes(cpha: bool, j: u8) -> bool
@@ -69,7 +65,8 @@ fn wrap_to(working: u16) -> u8
 }
 
 // MISO's level, zero unless it is assigned and an input.
-fn miso_of(pins: Pins) -> bool
+// Ruled out: the level of an output; the level of a pin that is not assigned.
+pub fn miso_of(pins: Pins) -> bool
     ensures { λ r. ⌜ r ≡ misoOf pins ⌝ }
 {
     bit_0(pins.pqspar) & !bit_0(pins.ddrqs) & bit_0(pins.levels)
@@ -102,8 +99,10 @@ impl Qspi {
         self.working = self.spcr2;
         self.pointer = at;
         self.pending = false;
-        self.command = self.commands[i];
-        self.shift = self.transmit[i];
+        let commands = self.commands;
+        let transmit = self.transmit;
+        self.command = commands[i];
+        self.shift = transmit[i];
         self
     }
 
@@ -127,7 +126,9 @@ impl Qspi {
         self
     }
 
-    fn edge_fallen(mut self, j: u8, miso: bool) -> Qspi
+    // Edge j, before it is asked whether it is edge 2n.
+    // Ruled out: MISO read on the edges on which MOSI changes; SPBR counted from the edge before.
+    pub fn edge_fallen(mut self, j: u8, miso: bool) -> Qspi
         ensures { λ r. ⌜ r ≡ edgeFallen j miso self ⌝ }
     {
         self.left = spbr(self.spcr0);
@@ -147,7 +148,9 @@ impl Qspi {
         ensures { λ r. ⌜ r ≡ stored self ⌝ }
     {
         let at = (self.pointer % 16) as usize;
-        self.receive[at] = self.collected;
+        let mut receive = self.receive;
+        receive[at] = self.collected;
+        self.receive = receive;
         self.cptqp = self.pointer % 16;
         self.playing = false;
         self.delaying = true;
@@ -261,46 +264,53 @@ impl Qspi {
         self.delayed(self.left <= 1)
     }
 
-    fn ready(self) -> bool
+    // Ruled out: an entry started with SPBR 1; HALT asked in a queue that is not halted.
+    pub fn ready(self) -> bool
         ensures { λ r. ⌜ r ≡ ready self ⌝ }
     {
         (2 <= spbr(self.spcr0)) & !(self.halted & halt(self.spcr3))
     }
 
-    fn start_clock(self, miso: bool) -> Qspi
-        ensures { λ r. ⌜ r ≡ startClock miso self ⌝ }
+    // Clock 1 takes an entry up.
+    fn begun(self, starts: bool) -> Qspi
+        ensures { λ r. ⌜ r ≡ cond starts (started (loaded self)) self ⌝ }
     {
-        if self.ready() {
-            self.loaded().started().play_clock(miso)
+        if starts {
+            self.loaded().started()
         } else {
             self
         }
     }
 
-    fn clock_at(self, playing: bool, delaying: bool, miso: bool) -> Qspi
-        ensures { λ r. ⌜ r ≡ clockAt playing delaying miso self ⌝ }
+    // An entry that clock 1 has just taken up is played like one that runs.
+    fn run_clock(self, playing: bool, delaying: bool, miso: bool) -> Qspi
+        ensures { λ r. ⌜ r ≡ cond playing (playClock miso self) (cond delaying (delayClock self) self) ⌝ }
     {
         if playing {
             return self.play_clock(miso);
         }
-        if delaying {
-            self.delay_clock()
-        } else {
-            self.start_clock(miso)
-        }
+        if delaying { self.delay_clock() } else { self }
+    }
+
+    fn clock_at(self, miso: bool) -> Qspi
+        ensures { λ r. ⌜ r ≡ clockAt (self .playing) (self .delaying) miso self ⌝ }
+    {
+        let q = self.begun(!self.playing & !self.delaying & self.ready());
+        q.run_clock(q.playing, q.delaying, miso)
     }
 
     fn queue_clock(self, miso: bool) -> Qspi
         ensures { λ r. ⌜ r ≡ queueClock miso self ⌝ }
     {
         if spe(self.spcr1) {
-            self.clock_at(self.playing, self.delaying, miso)
+            self.clock_at(miso)
         } else {
             self
         }
     }
 
-    fn fault_now(self, pins: Pins) -> bool
+    // Ruled out: a fault with SPE clear; a fault with PCS0 an output.
+    pub fn fault_now(self, pins: Pins) -> bool
         ensures { λ r. ⌜ r ≡ faultNow self pins ⌝ }
     {
         spe(self.spcr1) & mstr(self.spcr0) & selected(pins)

@@ -12,14 +12,16 @@ impl Qspi {
     pub fn receive_word(self, i: u8) -> u16
         ensures { λ r. ⌜ r ≡ receiveWord self i ⌝ }
     {
-        self.receive[(i % 16) as usize]
+        let receive = self.receive;
+        receive[(i % 16) as usize]
     }
 
     // Ruled out: a receive word; always word 0.
     pub fn transmit_word(self, i: u8) -> u16
         ensures { λ r. ⌜ r ≡ transmitWord self i ⌝ }
     {
-        self.transmit[(i % 16) as usize]
+        let transmit = self.transmit;
+        transmit[(i % 16) as usize]
     }
 
     // Ruled out: the two bytes swapped; byte i for byte 2i.
@@ -27,7 +29,8 @@ impl Qspi {
         ensures { λ r. ⌜ r ≡ commandWord self i ⌝ }
     {
         let at = (i % 8 * 2) as usize;
-        word(self.commands[at], self.commands[at + 1])
+        let commands = self.commands;
+        word(commands[at], commands[at + 1])
     }
 
     // Ruled out: an untouched byte changed; another word changed.
@@ -35,7 +38,9 @@ impl Qspi {
         ensures { λ r. ⌜ r ≡ writeReceive self i v upper lower ⌝ }
     {
         let at = (i % 16) as usize;
-        self.receive[at] = merge(self.receive[at], v, upper, lower);
+        let mut receive = self.receive;
+        receive[at] = merge(receive[at], v, upper, lower);
+        self.receive = receive;
         self
     }
 
@@ -44,7 +49,9 @@ impl Qspi {
         ensures { λ r. ⌜ r ≡ writeTransmit self i v upper lower ⌝ }
     {
         let at = (i % 16) as usize;
-        self.transmit[at] = merge(self.transmit[at], v, upper, lower);
+        let mut transmit = self.transmit;
+        transmit[at] = merge(transmit[at], v, upper, lower);
+        self.transmit = transmit;
         self
     }
 
@@ -52,8 +59,10 @@ impl Qspi {
         ensures { λ r. ⌜ r ≡ commandsSet self i w ⌝ }
     {
         let at = (i % 8 * 2) as usize;
-        self.commands[at] = upper_byte(w);
-        self.commands[at + 1] = lower_byte(w);
+        let mut commands = self.commands;
+        commands[at] = upper_byte(w);
+        commands[at + 1] = lower_byte(w);
+        self.commands = commands;
         self
     }
 

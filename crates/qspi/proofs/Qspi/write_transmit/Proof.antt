@@ -2,24 +2,6 @@ use borrow.Author.Needs.{needs}
 use Rattle.qspi.proofs.Qspi.write_transmit.Statement.{statement}
 use Rattle.qspi.proofs.Qspi.write_transmit.Tie as tie
 
-cast-at : tie.Need-cast-at
-cast-at c = search needs
-
-mul-merge : tie.Need-mul-merge
-mul-merge c = search needs
-
-element-copy-out-merge : tie.Need-element-copy-out-merge
-element-copy-out-merge c = search needs
-
-merge-requires : tie.Need-merge-requires
-merge-requires c κs = search needs
-
-mul-self : tie.Need-mul-self
-mul-self c = search needs
-
-element-write-self : tie.Need-element-write-self
-element-write-self c = search needs
-
 returns : tie.Need-returns
 returns c = rw (c .merge .ensures)
 
@@ -27,10 +9,10 @@ pub write-transmit-spec : {M : Type 1} → statement M
 write-transmit-spec =
     tie.close
     (tie.spec
-    cast-at
-    mul-merge
-    element-copy-out-merge
-    merge-requires
-    mul-self
-    element-write-self
+    (λ c. search needs)
+    (λ c. search needs)
+    (λ c. search needs)
+    (λ c κs. search needs)
+    (λ c. search needs)
+    (λ c. search needs)
     returns)

@@ -1,5 +1,4 @@
 use native.Mathlib.Nat.{div-one}
-use borrow.Author.Needs.{needs}
 use Rattle.qspi.proofs.fields.bit_0.Statement.{statement}
 use Rattle.qspi.proofs.fields.bit_0.Tie as tie
 
