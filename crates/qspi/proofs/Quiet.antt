@@ -2,21 +2,16 @@
 use mathlib.Core.Path.{_≡_, refl, sym, ap, _∙_}
 use mathlib.Core.Bool.{Bool, true, false, not, _&&_, _||_, and-comm}
 use Prim.Native.Nat.{ℕ, zero, suc, _+_, _-_, _*_, _%_, _≤_, _<_}
-use native.Mathlib.Nat.{zero-add, suc-add}
 use native.Mathlib.Omega.{arith}
 use borrow.Author.Tests.{le-leb, lt-leb, lt-ltb, ltb-true}
 use Rattle.steps.specs.Iterate.{iterate}
+use Rattle.steps.proofs.Iterate.{iterate-add}
 use Rattle.qspi.specs.Fields.{spe, cont, bitsOf}
 use Rattle.qspi.specs.Queue.{clock, queueClock, playClock, delayClock, startClock, ready, inDelay, misoOf, faultNow, edge, edgeFallen}
 use Rattle.qspi.specs.Quiet.{quiet, skipped, skippedIf, edgeNext}
 use Rattle.qspi.specs.State.{withCount}
 use Rattle.qspi.specs.declared.Qspi.{Qspi}
 use Rattle.qspi.specs.declared.Pins.{Pins}
-
-pub iterate-add : {A : Type 0} (a b : ℕ) (f : A → A) (x : A) → iterate (a + b) f x ≡ iterate a f (iterate b f x)
-unfolding iterate
-iterate-add zero b f x = ap (λ k. iterate k f x) (zero-add b)
-iterate-add (suc a) b f x = ap (λ k. iterate k f x) (suc-add a b) ∙ ap f (iterate-add a b f x)
 
 -- What one clock is, by where the queue stands.
 module _ (q : Qspi) (pins : Pins) where
