@@ -17,7 +17,7 @@ use Rattle.sci.specs.Link.{Delivered, NoError}
 use Rattle.sci.specs.declared.framer.Framer.{Framer}
 use Rattle.sci.specs.declared.status.Status.{Status}
 use Rattle.sci.specs.declared.receiver.Received.{Received}
-use Rattle.sci.proofs.FlagLaws.{set, has-RDRF, has-OR, has-NF, has-FE, has-PF}
+use Rattle.sci.proofs.Flagged.{isSet, has-flag}
 use Rattle.sci.proofs.Heard.{at-end, bitAt}
 use Rattle.sci.proofs.Sending.{stretched-at}
 use Rattle.sci.proofs.Samples.{stays-awake, count-up, not-reached, entered-word, entered-flags, idles}
@@ -25,7 +25,7 @@ use Rattle.sci.proofs.Going.{lineOf, after-ones, Clean, free, Going, Co
 
 pub no-error : (s : Status) → Clean s → NoError s
 no-error s h =
-    record { or = has-OR s ∙ h .or; nf = has-NF s ∙ h .nf; fe = has-FE s ∙ h .fe; pf = has-PF s ∙ h .pf }
+    record { or = has-flag 3 s ∙ h .or; nf = has-flag 2 s ∙ h .nf; fe = has-flag 1 s ∙ h .fe; pf = has-flag 0 s ∙ h .pf }
 
 -- From RT1 of the stop bit on the line is one.
 pub stop-level : (g : ℕ) (bits : List Bool) (i : ℕ) → i < 16 → getD (lineOf g bits) (g + (16 * length bits + 16 + i)) true ≡ true
@@ -43,7 +43,7 @@ module _ (c g : ℕ) (bits : List Bool) (sized : bitsOf (M c) ≡ length bits) (
   stands = h .hearing .framer ∙ after-ones (bitsOf (M c)) g bits (endSample (bitsOf (M c))) ∙ at-end (bitsOf (M c)) bits sized
 
   empty : full (p .status) ≡ false
-  empty = rw (has-RDRF (p .status) ∙ h .rdrf, has-OR (p .status) ∙ h .clean .or)
+  empty = rw (has-flag 6 (p .status) ∙ h .rdrf, has-flag 3 (p .status) ∙ h .clean .or)
 
   module _ (x : Bool) (one : x ≡ true) (even : PE c && parityBit (PT c) (value bits) ≡ false) where
     abbrev pub p′ : Received
@@ -53,7 +53,7 @@ module _ (c g : ℕ) (bits : List Bool) (sized : bitsOf (M c) ≡ length bits) (
     brings = ap₂ (λ (f : Framer) (b : Bool). frameOf f b) stands one
 
     flags : (k : ℕ) → bit k 32 ≡ false → idles (p .receiver) (p .status) c x && bit k 16 ≡ false →
-        set k (p′ .status) ≡ set k (p .status) || bit k 64
+        isSet k (p′ .status) ≡ isSet k (p .status) || bit k 64
     flags = entered-flags (p .receiver) (p .status) c x (value bits) (ap ends stands) brings (h .hearing .awake) empty even
 
     pub still-clean : Clean (p′ .status)
@@ -71,7 +71,7 @@ module _ (c g : ℕ) (bits : List Bool) (sized : bitsOf (M c) ≡ length bits) (
           word =
               entered-word (p .receiver) (p .status) c x (value bits) (ap ends stands) brings (h .hearing .awake) empty;
           rdrf =
-              has-RDRF (p′ .status) ∙ flags 6 refl (and-false (idles (p .receiver) (p .status) c x)) ∙ or-true (set 6 (p .status));
+              has-flag 6 (p′ .status) ∙ flags 6 refl (and-false (idles (p .receiver) (p .status) c x)) ∙ or-true (isSet 6 (p .status));
           errors = no-error (p′ .status) still-clean;
         }
 
@@ -96,7 +96,7 @@ module _ (c g : ℕ) (bits : List Bool) (sized : bitsOf (M c) ≡ length bits) (
       pub count-again : p′ .receiver .idle ≤ endSample (bitsOf (M c))
       count-again = omega (arith, n .late (omega arith), count-up (p .receiver) (p .status) c x)
 
-      pub idle-again : set 4 (p′ .status) ≡ false
+      pub idle-again : isSet 4 (p′ .status) ≡ false
       idle-again =
           flags 4 refl
           (ap (λ (b : Bool). b && not (p .receiver .asleep) && p .receiver .since && true)

@@ -12,6 +12,7 @@ use lib.Seq.{getD-append-add}
 use lib.ListN.{replicate, length, getD, List·getD-append, getD-replicate, length-replicate}
 use Rattle.steps.specs.Bits.{bit}
 use Rattle.sci.specs.Flags.{receiveFlags}
+use Rattle.sci.specs.Members.{member}
 use Rattle.sci.specs.Status.{markSeen, fallSeen}
 use Rattle.sci.specs.Control.{M, bitsOf, frameSamples}
 use Rattle.sci.specs.Framer.{searching, ends, framed}
@@ -22,7 +23,7 @@ use Rattle.sci.specs.declared.framer.Framer.{Framer}
 use Rattle.sci.specs.declared.status.Status.{Status}
 use Rattle.sci.specs.declared.receiver.Receiver.{Receiver}
 use Rattle.sci.specs.declared.receiver.Received.{Received}
-use Rattle.sci.proofs.FlagLaws.{set, marked, set-seen, marked-seen, set-fall-seen}
+use Rattle.sci.proofs.Flagged.{isSet, isMarked, set-markSeen, marked-markSeen, set-fallSeen, fallSeen-clear}
 use Rattle.sci.proofs.Heard.{after, At, at}
 use Rattle.sci.proofs.Sending.{and-left, and-right}
 use Rattle.sci.proofs.Samples.{passed-flags, passed-marks, passed-idle, stays-awake, count-up, count-zero, not-reached, zero-not-reached}
@@ -89,12 +90,12 @@ hear g line k r s c x h a o e =
 
 -- Neither OR, NF, FE nor PF.
 pub record Clean (s : Status) : Type 0 where
-  pub pf : set 0 s ≡ false
-  pub fe : set 1 s ≡ false
-  pub nf : set 2 s ≡ false
-  pub or : set 3 s ≡ false
+  pub pf : isSet 0 s ≡ false
+  pub fe : isSet 1 s ≡ false
+  pub nf : isSet 2 s ≡ false
+  pub or : isSet 3 s ≡ false
 
-pub clean-same : {s s′ : Status} → ((k : ℕ) → bit k 32 ≡ false → bit k 16 ≡ false → set k s′ ≡ set k s) → Clean s → Clean s′
+pub clean-same : {s s′ : Status} → ((k : ℕ) → bit k 32 ≡ false → bit k 16 ≡ false → isSet k s′ ≡ isSet k s) → Clean s → Clean s′
 clean-same f h =
     record {
       pf = f 0 refl refl ∙ h .pf;
@@ -103,19 +104,13 @@ clean-same f h =
       or = f 3 refl refl ∙ h .or;
     }
 
--- A clear flag stays clear in a read of data.
-read-clear : (k : ℕ) (s : Status) → set k s ≡ false → set k (fallSeen s receiveFlags) ≡ false
-read-clear k s h =
-    set-fall-seen k s receiveFlags
-    ∙ ap (λ (b : Bool). b && not (set k s && marked k s && bit k 95)) h
-
 clean-read : (s : Status) → Clean s → Clean (fallSeen s receiveFlags)
 clean-read s h =
     record {
-      pf = read-clear 0 s (h .pf);
-      fe = read-clear 1 s (h .fe);
-      nf = read-clear 2 s (h .nf);
-      or = read-clear 3 s (h .or);
+      pf = fallSeen-clear 0 s receiveFlags (h .pf);
+      fe = fallSeen-clear 1 s receiveFlags (h .fe);
+      nf = fallSeen-clear 2 s receiveFlags (h .nf);
+      or = fallSeen-clear 3 s receiveFlags (h .or);
     }
 
 -- What the reads have done about RDRF: nothing; status read since it rose; then data read.
@@ -126,8 +121,8 @@ pub data Stage : Type 0 where
 
 abbrev pub Rdrf : Stage → Status → Type 0
 Rdrf waiting s = Unit {0}
-Rdrf seen s = set 6 s ≡ true → marked 6 s ≡ true
-Rdrf free s = set 6 s ≡ false
+Rdrf seen s = isSet 6 s ≡ true → isMarked 6 s ≡ true
+Rdrf free s = isSet 6 s ≡ false
 
 abbrev pub staged : Event → Stage → Stage
 staged (sample x) st = st
@@ -138,7 +133,7 @@ staged dataRead waiting = waiting
 staged dataRead seen = free
 staged dataRead free = free
 
-pub rdrf-same : (st : Stage) (s s′ : Status) → set 6 s′ ≡ set 6 s → marked 6 s′ ≡ marked 6 s → Rdrf st s → Rdrf st s′
+pub rdrf-same : (st : Stage) (s s′ : Status) → isSet 6 s′ ≡ isSet 6 s → isMarked 6 s′ ≡ isMarked 6 s → Rdrf st s → Rdrf st s′
 rdrf-same waiting s s′ e m h = tt
 rdrf-same seen s s′ e m h = λ q. m ∙ h (sym e ∙ q)
 rdrf-same free s s′ e m h = e ∙ h
@@ -148,9 +143,9 @@ or-right true b e = refl
 or-right false b e = e
 
 pub rdrf-status : (st : Stage) (s : Status) → Rdrf st s → Rdrf (staged statusRead st) (markSeen s)
-rdrf-status waiting s h = λ q. marked-seen 6 s ∙ or-right (marked 6 s) (set 6 s) (sym (set-seen 6 s) ∙ q)
-rdrf-status seen s h = λ q. marked-seen 6 s ∙ or-right (marked 6 s) (set 6 s) (sym (set-seen 6 s) ∙ q)
-rdrf-status free s h = set-seen 6 s ∙ h
+rdrf-status waiting s h = λ q. marked-markSeen 6 s ∙ or-right (isMarked 6 s) (isSet 6 s) (sym (set-markSeen 6 s) ∙ q)
+rdrf-status seen s h = λ q. marked-markSeen 6 s ∙ or-right (isMarked 6 s) (isSet 6 s) (sym (set-markSeen 6 s) ∙ q)
+rdrf-status free s h = set-markSeen 6 s ∙ h
 
 falls : (a m : Bool) → (a ≡ true → m ≡ true) → a && not (a && m && true) ≡ false
 falls false m h = refl
@@ -158,9 +153,10 @@ falls true true h = refl
 falls true false h = absurd (false≢true (h refl))
 
 pub rdrf-data : (st : Stage) (s : Status) → Rdrf st s → Rdrf (staged dataRead st) (fallSeen s receiveFlags)
+unfolding member
 rdrf-data waiting s h = tt
-rdrf-data seen s h = set-fall-seen 6 s receiveFlags ∙ falls (set 6 s) (marked 6 s) h
-rdrf-data free s h = read-clear 6 s h
+rdrf-data seen s h = set-fallSeen 6 s receiveFlags ∙ falls (isSet 6 s) (isMarked 6 s) h
+rdrf-data free s h = fallSeen-clear 6 s receiveFlags h
 
 unfoldable pub stages : List Event → Stage → Stage
 stages [] st = st
@@ -217,7 +213,7 @@ module _ (c g : ℕ) (bits : List Bool) (sized : bitsOf (M c) ≡ length bits) w
   going-status k st p h =
       record {
         hearing = h .hearing;
-        clean = clean-same (λ j e f. set-seen j (p .status)) (h .clean);
+        clean = clean-same (λ j e f. set-markSeen j (p .status)) (h .clean);
         rdrf = rdrf-status st (p .status) (h .rdrf);
       }
 
@@ -258,7 +254,7 @@ module _ (c g : ℕ) (bits : List Bool) (sized : bitsOf (M c) ≡ length bits) w
 
 -- The idle count on the way, from q on, and IDLE clear.
 pub record Counting (g q k : ℕ) (r : Receiver) (s : Status) : Type 0 where
-  pub idle : set 4 s ≡ false
+  pub idle : isSet 4 s ≡ false
   pub early : k ≤ g → r .idle ≤ q + k
   pub late : g < k → r .idle + g < k
 
@@ -323,10 +319,10 @@ module _ (c g q : ℕ) (bits : List Bool) (low : 0 < g → q + g < frameSamples 
   counting sized (statusRead ∷ es) k st p h n a l =
       counting sized es k (staged statusRead st) (record { receiver = p .receiver; status = markSeen (p .status) })
       (going-status c g bits sized k st p h)
-      (record { idle = set-seen 4 (p .status) ∙ n .idle; early = n .early; late = n .late })
+      (record { idle = set-markSeen 4 (p .status) ∙ n .idle; early = n .early; late = n .late })
       a l
   counting sized (dataRead ∷ es) k st p h n a l =
       counting sized es k (staged dataRead st) (record { receiver = p .receiver; status = fallSeen (p .status) receiveFlags })
       (going-data c g bits sized k st p h)
-      (record { idle = read-clear 4 (p .status) (n .idle); early = n .early; late = n .late })
+      (record { idle = fallSeen-clear 4 (p .status) receiveFlags (n .idle); early = n .early; late = n .late })
       a l

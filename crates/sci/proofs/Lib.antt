@@ -18,7 +18,6 @@ pub mod History
 pub mod Demand3
 pub mod Lift
 pub mod Heard
-pub mod FlagLaws
 pub mod Samples
 pub mod Sending
 pub mod Going

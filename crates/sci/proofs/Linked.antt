@@ -20,7 +20,7 @@ use Rattle.sci.specs.declared.framer.Framer.{Framer}
 use Rattle.sci.specs.declared.status.Status.{Status}
 use Rattle.sci.specs.declared.receiver.Received.{Received}
 use Rattle.sci.specs.declared.transmitter.Transmitter.{Transmitter}
-use Rattle.sci.proofs.FlagLaws.{has-RDRF, has-IDLE, has-OR, has-NF, has-FE, has-PF}
+use Rattle.sci.proofs.Flagged.{has-flag}
 use Rattle.sci.proofs.Heard.{at, at-end, stretched-length}
 use Rattle.sci.proofs.Sending.{Sending, shows, keeps-sending, begins-sending, parity-right, sent-fits, low-length, value-low}
 use Rattle.sci.proofs.Going.{Clean, Rested, start, Stage, free, stages, Rdrf, Going, going, Counting, counting}
@@ -101,7 +101,7 @@ stages-free (Event.dataRead ∷ es) = stages-free es
 
 ready-clean : (s : Status) → NoError s → Clean s
 ready-clean s h =
-    record { pf = sym (has-PF s) ∙ h .pf; fe = sym (has-FE s) ∙ h .fe; nf = sym (has-NF s) ∙ h .nf; or = sym (has-OR s) ∙ h .or }
+    record { pf = sym (has-flag 0 s) ∙ h .pf; fe = sym (has-flag 1 s) ∙ h .fe; nf = sym (has-flag 2 s) ∙ h .nf; or = sym (has-flag 3 s) ∙ h .or }
 
 pub ready-rested : (p : Received) → Ready p → Rested free p
 ready-rested p r =
@@ -110,7 +110,7 @@ ready-rested p r =
       ones = r .ones;
       awake = r .awake;
       clean = ready-clean (p .status) (r .errors);
-      rdrf = sym (has-RDRF (p .status)) ∙ r .rdrf;
+      rdrf = sym (has-flag 6 (p .status)) ∙ r .rdrf;
     }
 
 module _ (t : Transmitter) (s : Status) (c : ℕ) (p : Received) (d : ℕ) (begins : beginsFrame t s c ≡ true)
@@ -146,7 +146,7 @@ module _ (t : Transmitter) (s : Status) (c : ℕ) (p : Received) (d : ℕ) (begi
       ap (λ (xs : List Bool). getD xs j true) f ∙ getD-take (suc (length later)) (frameLevels bits) j true (omega arith)
       ∙ ap (λ (i : ℕ). getD (frameLevels bits) i true) z)
       (omega arith) in
-      has-RDRF (history d es p .status) ∙ subst (λ (st : Stage). Rdrf st (history d es p .status)) (stages-free es) (h .rdrf)
+      has-flag 6 (history d es p .status) ∙ subst (λ (st : Stage). Rdrf st (history d es p .status)) (stages-free es) (h .rdrf)
 
   -- The state before the frame's last sample, which is one.
   module _ (later : List Around) (es : List Event) (x : Bool) (l : length later ≡ endSample n)
@@ -194,7 +194,7 @@ module _ (t : Transmitter) (s : Status) (c : ℕ) (p : Received) (d : ℕ) (begi
         subst (λ (k : ℕ). Counting 0 (p .receiver .idle) k (history d es p .receiver) (history d es p .status)) there
         (counting d 0 (p .receiver .idle) bits (λ z. absurd (omega arith)) sized es 0 free p
         (start (bitsOf (M d)) 0 bits free p (ready-rested p ready))
-        (record { idle = sym (has-IDLE (p .status)) ∙ ready .idle; early = λ z. omega arith; late = λ z. absurd (omega arith) })
+        (record { idle = sym (has-flag 4 (p .status)) ∙ ready .idle; early = λ z. omega arith; late = λ z. absurd (omega arith) })
         agree
         (omega (arith, there)))
 
@@ -211,7 +211,7 @@ module _ (t : Transmitter) (s : Status) (c : ℕ) (p : Received) (d : ℕ) (begi
     no-idle : has (happens d (sample x) (history d es p) .status) IDLE ≡ false
     unfolding happens
     no-idle =
-        has-IDLE (happens d (sample x) (history d es p) .status)
+        has-flag 4 (happens d (sample x) (history d es p) .status)
         ∙ idle-again d 0 bits sized (history d es p) stands x one even (p .receiver .idle) counted
 
 pub linked : Linked

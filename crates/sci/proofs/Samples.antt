@@ -7,37 +7,36 @@ use native.Mathlib.Omega.{arith}
 use borrow.Author.Tests.{ne-eqb}
 use Rattle.steps.specs.Bits.{bit}
 use Rattle.sci.specs.Flags.{PF, FE, NF, OR, IDLE, RAF, RDRF}
+use Rattle.sci.specs.Members.{member}
 use Rattle.sci.specs.Status.{raiseIf, fallIf}
 use Rattle.sci.specs.Control.{PT, PE, M, bitsOf, frameSamples}
 use Rattle.sci.specs.Bits.{parityBit}
 use Rattle.sci.specs.Framer.{ends, frameOf}
 use Rattle.sci.specs.Receiver.{full, outcome, raised, entered, statusAfter, receiverAfter, received}
-use Rattle.sci.specs.declared.flags.Flags.{Flags}
 use Rattle.sci.specs.declared.status.Status.{Status}
 use Rattle.sci.specs.declared.framer.Frame.{Frame}
 use Rattle.sci.specs.declared.receiver.Receiver.{Receiver}
 use Rattle.sci.specs.declared.receiver.Outcome.{Outcome}
-use Rattle.sci.proofs.FlagLaws.{set, marked, set-raise, raise-keeps, fall-keeps, fall-keeps-marked, marked-raise}
+use Rattle.sci.proofs.Flagged.{isSet, isMarked, set-raise, marked-raiseIf, raise-off, raise-keeps, fall-keeps, fall-keeps-marked}
 
 -- Flag k is neither RAF nor, where the line falls idle, IDLE.
 status-set : (k : ℕ) (s : Status) (o : Outcome) (f : Frame) (bad idles : Bool) → bit k 32 ≡ false → idles && bit k 16 ≡ false →
-    set k (statusAfter s o f bad idles) ≡ set k (entered (o .taken && not (o .lost)) (raiseIf (o .lost) s OR) f bad)
-unfolding statusAfter
+    isSet k (statusAfter s o f bad idles) ≡ isSet k (entered (o .taken && not (o .lost)) (raiseIf (o .lost) s OR) f bad)
+unfolding statusAfter member
 status-set k s o f bad idles h i =
     let a : Status = entered (o .taken && not (o .lost)) (raiseIf (o .lost) s OR) f bad in
     let b : Status = raiseIf (o .begun) a RAF in
     let c : Status = fallIf (o .abandoned || o .reached) b RAF in
-    raise-keeps k idles c IDLE i ∙ fall-keeps k (o .abandoned || o .reached) b RAF h
-    ∙ raise-keeps k (o .begun) a RAF (ap (λ (x : Bool). o .begun && x) h ∙ and-false (o .begun))
+    raise-off k idles c IDLE i ∙ fall-keeps k (o .abandoned || o .reached) b RAF h ∙ raise-keeps k (o .begun) a RAF h
 
 status-marked : (k : ℕ) (s : Status) (o : Outcome) (f : Frame) (bad idles : Bool) → bit k 32 ≡ false →
-    marked k (statusAfter s o f bad idles) ≡ marked k (entered (o .taken && not (o .lost)) (raiseIf (o .lost) s OR) f bad)
-unfolding statusAfter
+    isMarked k (statusAfter s o f bad idles) ≡ isMarked k (entered (o .taken && not (o .lost)) (raiseIf (o .lost) s OR) f bad)
+unfolding statusAfter member
 status-marked k s o f bad idles h =
     let a : Status = entered (o .taken && not (o .lost)) (raiseIf (o .lost) s OR) f bad in
     let b : Status = raiseIf (o .begun) a RAF in
     let c : Status = fallIf (o .abandoned || o .reached) b RAF in
-    marked-raise k idles c IDLE ∙ fall-keeps-marked k (o .abandoned || o .reached) b RAF h ∙ marked-raise k (o .begun) a RAF
+    marked-raiseIf k idles c IDLE ∙ fall-keeps-marked k (o .abandoned || o .reached) b RAF h ∙ marked-raiseIf k (o .begun) a RAF
 
 -- Nothing is taken.
 none-entered : (s : Status) (f : Frame) (bad taken lost : Bool) → taken ≡ false → lost ≡ false →
@@ -47,25 +46,22 @@ none-entered s f bad taken lost t l = rw (t, l)
 
 -- A clean frame enters.
 clean-entered : (k : ℕ) (s : Status) (f : Frame) (bad taken lost : Bool) → taken ≡ true → lost ≡ false → f .noise ≡ false →
-    f .stop ≡ true → bad ≡ false → set k (entered (taken && not lost) (raiseIf lost s OR) f bad) ≡ set k s || bit k 64
-unfolding entered raiseIf raised
-clean-entered k s f bad taken lost t l e g b = rw (t, l, e, g, b) (set-raise k true s RDRF)
+    f .stop ≡ true → bad ≡ false → isSet k (entered (taken && not lost) (raiseIf lost s OR) f bad) ≡ isSet k s || bit k 64
+unfolding entered raiseIf raised member
+clean-entered k s f bad taken lost t l e g b = rw (t, l, e, g, b) (set-raise k s RDRF)
 
 -- A flag that is none of the receiver's.
 entered-keeps : (k : ℕ) (enters lost : Bool) (s : Status) (f : Frame) (bad : Bool) → bit k 64 ≡ false → bit k 8 ≡ false →
-    bit k 4 ≡ false → bit k 2 ≡ false → bit k 1 ≡ false → set k (entered enters (raiseIf lost s OR) f bad) ≡ set k s
-unfolding entered raised raiseIf
-entered-keeps k false lost s f bad a b c d e = raise-keeps k lost s OR (ap (λ (y : Bool). lost && y) b ∙ and-false lost)
+    bit k 4 ≡ false → bit k 2 ≡ false → bit k 1 ≡ false → isSet k (entered enters (raiseIf lost s OR) f bad) ≡ isSet k s
+unfolding entered raised raiseIf member
+entered-keeps k false lost s f bad a b c d e = raise-keeps k lost s OR b
 entered-keeps k true lost s f bad a b c d e =
     let s₀ : Status = raiseIf lost s OR in
     let s₁ : Status = raiseIf true s₀ RDRF in
     let s₂ : Status = raiseIf (f .noise) s₁ NF in
     let s₃ : Status = raiseIf (not (f .stop)) s₂ FE in
-    raise-keeps k bad s₃ PF (off bad PF e) ∙ raise-keeps k (not (f .stop)) s₂ FE (off (not (f .stop)) FE d)
-    ∙ raise-keeps k (f .noise) s₁ NF (off (f .noise) NF c) ∙ raise-keeps k true s₀ RDRF a ∙ raise-keeps k lost s OR (off lost OR b)
-  where
-    off : (x : Bool) (g : Flags) → bit k (g .bits) ≡ false → x && bit k (g .bits) ≡ false
-    off x g h = ap (λ (y : Bool). x && y) h ∙ and-false x
+    raise-keeps k bad s₃ PF e ∙ raise-keeps k (not (f .stop)) s₂ FE d ∙ raise-keeps k (f .noise) s₁ NF c
+    ∙ raise-keeps k true s₀ RDRF a ∙ raise-keeps k lost s OR b
 
 module _ (r : Receiver) (s : Status) (c : ℕ) (x : Bool) where
   abbrev pub idles : Bool
@@ -104,27 +100,27 @@ module _ (r : Receiver) (s : Status) (c : ℕ) (x : Bool) where
 
   -- A sample that ends no frame.
   pub passed-flags : ends (r .framer) ≡ false → (k : ℕ) → bit k 32 ≡ false → bit k 16 ≡ false →
-      set k (received r s c x .status) ≡ set k s
+      isSet k (received r s c x .status) ≡ isSet k s
   unfolding received
   passed-flags e k h i =
       status-set k s (outcome r s c x) (frameOf (r .framer) x) bad idles h (ap (λ (b : Bool). idles && b) i ∙ and-false idles)
-      ∙ ap (set k) (none-entered s (frameOf (r .framer) x) bad (outcome r s c x .taken) (outcome r s c x .lost) (not-taken e) (not-lost e))
+      ∙ ap (isSet k) (none-entered s (frameOf (r .framer) x) bad (outcome r s c x .taken) (outcome r s c x .lost) (not-taken e) (not-lost e))
 
-  pub passed-idle : ends (r .framer) ≡ false → outcome r s c x .reached ≡ false → set 4 (received r s c x .status) ≡ set 4 s
+  pub passed-idle : ends (r .framer) ≡ false → outcome r s c x .reached ≡ false → isSet 4 (received r s c x .status) ≡ isSet 4 s
   unfolding received
   passed-idle e n =
       status-set 4 s (outcome r s c x) (frameOf (r .framer) x) bad idles refl (rw n)
-      ∙ ap (set 4) (none-entered s (frameOf (r .framer) x) bad (outcome r s c x .taken) (outcome r s c x .lost) (not-taken e) (not-lost e))
+      ∙ ap (isSet 4) (none-entered s (frameOf (r .framer) x) bad (outcome r s c x .taken) (outcome r s c x .lost) (not-taken e) (not-lost e))
 
-  pub passed-marks : ends (r .framer) ≡ false → (k : ℕ) → bit k 32 ≡ false → marked k (received r s c x .status) ≡ marked k s
+  pub passed-marks : ends (r .framer) ≡ false → (k : ℕ) → bit k 32 ≡ false → isMarked k (received r s c x .status) ≡ isMarked k s
   unfolding received
   passed-marks e k h =
       status-marked k s (outcome r s c x) (frameOf (r .framer) x) bad idles h
-      ∙ ap (marked k)
+      ∙ ap (isMarked k)
       (none-entered s (frameOf (r .framer) x) bad (outcome r s c x .taken) (outcome r s c x .lost) (not-taken e) (not-lost e))
 
   pub transmit-flags : (k : ℕ) → bit k 64 ≡ false → bit k 32 ≡ false → bit k 16 ≡ false → bit k 8 ≡ false →
-      bit k 4 ≡ false → bit k 2 ≡ false → bit k 1 ≡ false → set k (received r s c x .status) ≡ set k s
+      bit k 4 ≡ false → bit k 2 ≡ false → bit k 1 ≡ false → isSet k (received r s c x .status) ≡ isSet k s
   unfolding received
   transmit-flags k h i j l m n o =
       status-set k s (outcome r s c x) (frameOf (r .framer) x) bad idles i (ap (λ (b : Bool). idles && b) j ∙ and-false idles)
@@ -154,7 +150,7 @@ module _ (r : Receiver) (s : Status) (c : ℕ) (x : Bool) where
     entered-word = rw (is-taken end awake, is-kept empty) (ap (λ (f : Frame). f .word) clean)
 
     pub entered-flags : PE c && parityBit (PT c) w ≡ false → (k : ℕ) → bit k 32 ≡ false → idles && bit k 16 ≡ false →
-        set k (received r s c x .status) ≡ set k s || bit k 64
+        isSet k (received r s c x .status) ≡ isSet k s || bit k 64
     unfolding received
     entered-flags p k h i =
         status-set k s (outcome r s c x) (frameOf (r .framer) x) bad idles h i

@@ -10,6 +10,7 @@ use lib.ListN.{replicate, length, getD, length-replicate}
 use borrow.Author.Tests.{ne-eqb, le-leb, lt-leb, leb-false}
 use Rattle.steps.specs.Bits.{bit, merge}
 use Rattle.sci.specs.Flags.{RAF, TC, TDRE, receiveFlags, transmitFlags}
+use Rattle.sci.specs.Members.{member}
 use Rattle.sci.specs.Status.{has, raiseIf, fallIf, fallSeen}
 use Rattle.sci.specs.Control.{SCBR, PT, PE, M, TE, RE, bitsOf, frameSamples, sccr1Bits, settings}
 use Rattle.sci.specs.Bits.{parityBit}
@@ -20,13 +21,12 @@ use Rattle.sci.specs.Serial.{active, due, heard, afterSent, sampled, cou
 use Rattle.sci.specs.Levels.{value, framerAfter, endSample}
 use Rattle.sci.specs.Link.{dataBits, statusRead as sawStatus, dataRead as sawData, Delivered}
 use Rattle.sci.specs.Wire.{Access, readStatus, readData, writeData, writeControl, accessed, Same, hearing}
-use Rattle.sci.specs.declared.flags.Flags.{Flags}
 use Rattle.sci.specs.declared.status.Status.{Status}
 use Rattle.sci.specs.declared.receiver.Receiver.{Receiver}
 use Rattle.sci.specs.declared.receiver.Received.{Received}
 use Rattle.sci.specs.declared.transmitter.Transmitter.{Transmitter}
 use Rattle.sci.specs.declared.serial.Sci.{Sci}
-use Rattle.sci.proofs.FlagLaws.{set, marked, raise-keeps, fall-keeps, marked-raise, set-seen, set-fall-seen, fall-seen-keeps, fall-seen-keeps-marked}
+use Rattle.sci.proofs.Flagged.{isSet, isMarked, marked-raiseIf, set-markSeen, raise-off, raise-keeps, fall-keeps, fallSeen-keeps, fallSeen-keeps-marked, fallSeen-clear}
 use Rattle.sci.proofs.Sending.{and-left, Sending, keeps-sending, begins-sending, no-frame}
 use Rattle.sci.proofs.Samples.{transmit-flags}
 use Rattle.sci.proofs.Going.{lineOf, Rested, start, Hearing, Clean, Stage, waiting, free, staged, Rdrf, rdrf-same, rdrf-status, rdrf-data, Going, going-sample}
@@ -121,18 +121,16 @@ sender-access n w k P p s (writeControl v upper lower) h = go (RE (merge (sccr1W
     go false = record { sending = record { left = h .sending .left; shift = h .sending .shift }; rate = h .rate; count = h .count }
 
 -- The receiver's flags don't change in the transmitter's part of a sample, nor in a write of data.
-sent-keeps : (k : ℕ) (t : Transmitter) (s : Status) (c : ℕ) → bit k 128 ≡ false → bit k 256 ≡ false → set k (sent t s c .status) ≡ set k s
-unfolding sent
+sent-keeps : (k : ℕ) (t : Transmitter) (s : Status) (c : ℕ) → bit k 128 ≡ false → bit k 256 ≡ false → isSet k (sent t s c .status) ≡ isSet k s
+unfolding sent member
 sent-keeps k t s c e f =
     let a : Bool = ends t && has s TDRE in
-    let b : Bool = beginsFrame t s c in
-    raise-keeps k b (raiseIf a s TC) TDRE (ap (λ (x : Bool). b && x) f ∙ and-false b)
-    ∙ raise-keeps k a s TC (ap (λ (x : Bool). a && x) e ∙ and-false a)
+    raise-keeps k (beginsFrame t s c) (raiseIf a s TC) TDRE f ∙ raise-keeps k a s TC e
 
-sent-marks : (k : ℕ) (t : Transmitter) (s : Status) (c : ℕ) → marked k (sent t s c .status) ≡ marked k s
+sent-marks : (k : ℕ) (t : Transmitter) (s : Status) (c : ℕ) → isMarked k (sent t s c .status) ≡ isMarked k s
 unfolding sent
 sent-marks k t s c =
-    marked-raise k (beginsFrame t s c) (raiseIf (ends t && has s TDRE) s TC) TDRE ∙ marked-raise k (ends t && has s TDRE) s TC
+    marked-raiseIf k (beginsFrame t s c) (raiseIf (ends t && has s TDRE) s TC) TDRE ∙ marked-raiseIf k (ends t && has s TDRE) s TC
 
 rested-sent : (st : Stage) (p : Received) (t : Transmitter) (c : ℕ) → Rested st p →
     Rested st (record { receiver = p .receiver; status = sent t (p .status) c .status })
@@ -170,9 +168,6 @@ going-sent n g line k st p t c r =
           (r .rdrf);
     }
 
-fall-clear : (k : ℕ) (s : Status) (g : Flags) → set k s ≡ false → set k (fallSeen s g) ≡ false
-fall-clear k s g h = set-fall-seen k s g ∙ ap (λ (b : Bool). b && not (set k s && marked k s && bit k (g .bits))) h
-
 -- What an access does about RDRF.
 abbrev pub heeded : Access → Stage → Stage
 heeded readStatus st = staged sawStatus st
@@ -187,7 +182,7 @@ record Untouched (a : Access) (s r : Sci) : Type 0 where
   control : settings (r .sccr1) ≡ settings (s .sccr1)
   on : RE (r .sccr1) ≡ RE (s .sccr1)
   prescaler : r .prescaler ≡ s .prescaler
-  clear : (k : ℕ) → set k (s .status) ≡ false → set k (r .status) ≡ false
+  clear : (k : ℕ) → isSet k (s .status) ≡ false → isSet k (r .status) ≡ false
   rdrf : (st : Stage) → Rdrf st (s .status) → Rdrf (heeded a st) (r .status)
 
 -- RE as it is written is RE as it is kept.
@@ -197,7 +192,7 @@ re-kept v =
     ap (λ (x : ℕ). eqb x 1) e
 
 untouched : (s : Sci) (a : Access) → RE (s .sccr1) ≡ true → Same s (accessed a s) → Untouched a s (accessed a s)
-unfolding accessed wroteSccr1
+unfolding accessed wroteSccr1 member
 untouched s readStatus on h =
     record {
       receiver = refl;
@@ -205,7 +200,7 @@ untouched s readStatus on h =
       control = refl;
       on = refl;
       prescaler = refl;
-      clear = λ k e. set-seen k (s .status) ∙ e;
+      clear = λ k e. set-markSeen k (s .status) ∙ e;
       rdrf = λ st h. rdrf-status st (s .status) h;
     }
 untouched s readData on h =
@@ -215,7 +210,7 @@ untouched s readData on h =
       control = refl;
       on = refl;
       prescaler = refl;
-      clear = λ k e. fall-clear k (s .status) receiveFlags e;
+      clear = λ k e. fallSeen-clear k (s .status) receiveFlags e;
       rdrf = λ st h. rdrf-data st (s .status) h;
     }
 untouched s (writeData v upper) on h =
@@ -225,10 +220,10 @@ untouched s (writeData v upper) on h =
       control = refl;
       on = refl;
       prescaler = refl;
-      clear = λ k e. fall-clear k (s .status) transmitFlags e;
+      clear = λ k e. fallSeen-clear k (s .status) transmitFlags e;
       rdrf = λ st h.
-          rdrf-same st (s .status) (fallSeen (s .status) transmitFlags) (fall-seen-keeps 6 (s .status) transmitFlags refl)
-          (fall-seen-keeps-marked 6 (s .status) transmitFlags refl) h;
+          rdrf-same st (s .status) (fallSeen (s .status) transmitFlags) (fallSeen-keeps 6 (s .status) transmitFlags refl)
+          (fallSeen-keeps-marked 6 (s .status) transmitFlags refl) h;
     }
 untouched s (writeControl v upper lower) on h = go (RE new) refl h
   where
@@ -248,7 +243,7 @@ untouched s (writeControl v upper lower) on h = go (RE new) refl h
         }
     go false e m = absurd (false≢true (sym e ∙ sym (re-kept new) ∙ m .on ∙ on))
 
-clean-clear : (s r : Status) → ((k : ℕ) → set k s ≡ false → set k r ≡ false) → Clean s → Clean r
+clean-clear : (s r : Status) → ((k : ℕ) → isSet k s ≡ false → isSet k r ≡ false) → Clean s → Clean r
 clean-clear s r f h = record { pf = f 0 (h .pf); fe = f 1 (h .fe); nf = f 2 (h .nf); or = f 3 (h .or) }
 
 -- The receiver's sample.
@@ -530,37 +525,37 @@ pub access-registers : (s : Sci) (a : Access) → settings (accessed a s .sccr1)
 access-registers s a e = record { sccr0 = access-rate s a; control = e }
 
 -- TDRE stays clear until a frame begins.
-sent-tdre : (t : Transmitter) (s : Status) (c : ℕ) → 1 < t .left → set 8 (sent t s c .status) ≡ set 8 s
-unfolding sent
+sent-tdre : (t : Transmitter) (s : Status) (c : ℕ) → 1 < t .left → isSet 8 (sent t s c .status) ≡ isSet 8 s
+unfolding sent member
 sent-tdre t s c l =
     let a : Bool = ends t && has s TDRE in
-    let b : Bool = beginsFrame t s c in
-    raise-keeps 8 b (raiseIf a s TC) TDRE (ap (λ (x : Bool). x && true) (no-frame t s c l)) ∙ raise-keeps 8 a s TC (and-false a)
+    raise-off 8 (beginsFrame t s c) (raiseIf a s TC) TDRE (ap (λ (x : Bool). x && true) (no-frame t s c l))
+    ∙ raise-keeps 8 a s TC refl
 
-pub tdre-clock : (s : Sci) (x : Bool) → (due s ≡ true → 1 < s .transmitter .left) → set 8 (s .status) ≡ false → set 8 (clocked s x .status) ≡ false
+pub tdre-clock : (s : Sci) (x : Bool) → (due s ≡ true → 1 < s .transmitter .left) → isSet 8 (s .status) ≡ false → isSet 8 (clocked s x .status) ≡ false
 unfolding clocked sampled
 tdre-clock s x l h = go (active s) (due s) l
   where
     heard-tdre : 1 < s .transmitter .left → (b : Bool) →
-        set 8 (heard b (afterSent s (sent (s .transmitter) (s .status) (s .sccr1))) x .status) ≡ false
+        isSet 8 (heard b (afterSent s (sent (s .transmitter) (s .status) (s .sccr1))) x .status) ≡ false
     heard-tdre l true =
         transmit-flags (s .receiver) (sent (s .transmitter) (s .status) (s .sccr1) .status) (s .sccr1) x 8 refl refl refl refl refl refl refl
         ∙ sent-tdre (s .transmitter) (s .status) (s .sccr1) l ∙ h
     heard-tdre l false = sent-tdre (s .transmitter) (s .status) (s .sccr1) l ∙ h
 
-    go : (a d : Bool) → (d ≡ true → 1 < s .transmitter .left) → set 8 (cond a (prescaled d s x) s .status) ≡ false
+    go : (a d : Bool) → (d ≡ true → 1 < s .transmitter .left) → isSet 8 (cond a (prescaled d s x) s .status) ≡ false
     go true true l = heard-tdre (l refl) (RE (s .sccr1))
     go true false l = h
     go false true l = h
     go false false l = h
 
-pub tdre-access : (s : Sci) (a : Access) → set 8 (s .status) ≡ false → set 8 (accessed a s .status) ≡ false
-unfolding accessed wroteSccr1 fallIf
-tdre-access s readStatus h = set-seen 8 (s .status) ∙ h
-tdre-access s readData h = fall-clear 8 (s .status) receiveFlags h
-tdre-access s (writeData v upper) h = fall-clear 8 (s .status) transmitFlags h
+pub tdre-access : (s : Sci) (a : Access) → isSet 8 (s .status) ≡ false → isSet 8 (accessed a s .status) ≡ false
+unfolding accessed wroteSccr1 fallIf member
+tdre-access s readStatus h = set-markSeen 8 (s .status) ∙ h
+tdre-access s readData h = fallSeen-clear 8 (s .status) receiveFlags h
+tdre-access s (writeData v upper) h = fallSeen-clear 8 (s .status) transmitFlags h
 tdre-access s (writeControl v upper lower) h = go (RE (merge (sccr1Word s) v upper lower))
   where
-    go : (b : Bool) → set 8 (stopped b (withSccr1 s (merge (sccr1Word s) v upper lower)) .status) ≡ false
+    go : (b : Bool) → isSet 8 (stopped b (withSccr1 s (merge (sccr1Word s) v upper lower)) .status) ≡ false
     go true = h
     go false = fall-keeps 8 true (s .status) RAF refl ∙ h

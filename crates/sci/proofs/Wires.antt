@@ -23,7 +23,7 @@ use Rattle.sci.specs.Levels.{lowBits, value, frameLevels, endSample}
 use Rattle.sci.specs.Link.{dataBits, Event, Delivered}
 use Rattle.sci.specs.Wire.{Wired, Access, readStatus, readData, writeData, writeControl, accessed, Same, Unchanged, Step, clock, atSender, atReceiver, step, steps, clocksIn, readsOf, hearing, Matched, Rests, Word, begun, ended, period, width, Sends, Received, Arrives, AllSent, AllRead, AllReceived, ArriveInTurn, StopBitRests, FrameDrives}
 use Rattle.sci.specs.declared.serial.Sci.{Sci}
-use Rattle.sci.proofs.FlagLaws.{set, has-TDRE}
+use Rattle.sci.proofs.Flagged.{isSet, has-flag}
 use Rattle.sci.proofs.Sending.{and-left, shows, low-length, value-low}
 use Rattle.sci.proofs.Going.{lineOf, Rested, Stage, waiting, free, staged, stages}
 use Rattle.sci.proofs.Arriving.{stop-level}
@@ -496,7 +496,7 @@ still-loaded n w P t s h l d = go (decLt (h .p + 1) P)
         omega (arith, h .at .sending .left)
 
 tdre-run : (n w P t : ℕ) (es : List Step) (q : Wired) → SenderOn n w P t (q .sender) → t + clocksIn es < frameSamples n * P →
-    set 8 (q .sender .status) ≡ false → set 8 (steps es q .sender .status) ≡ false
+    isSet 8 (q .sender .status) ≡ false → isSet 8 (steps es q .sender .status) ≡ false
 unfolding steps step clocksIn
 tdre-run n w P t [] q h l o = o
 tdre-run n w P t (clock x ∷ es) q h l o =
@@ -506,11 +506,11 @@ tdre-run n w P t (atSender a ∷ es) q h l o =
     tdre-run n w P t es (step (atSender a) q) (sender-touched n w P t (q .sender) a h) l (tdre-access (q .sender) a o)
 tdre-run n w P t (atReceiver a ∷ es) q h l o = tdre-run n w P t es (step (atReceiver a) q) h l o
 
-begins-next : (s : Sci) → TE (s .sccr1) ≡ true → s .transmitter .left ≡ 1 → s .transmitter .preamble ≡ false → set 8 (s .status) ≡ false →
+begins-next : (s : Sci) → TE (s .sccr1) ≡ true → s .transmitter .left ≡ 1 → s .transmitter .preamble ≡ false → isSet 8 (s .status) ≡ false →
     beginsFrame (s .transmitter) (s .status) (s .sccr1) ≡ true
 begins-next s t l p h =
     let f : leb (s .transmitter .left) 1 ≡ true = le-leb (s .transmitter .left) 1 (omega arith) in
-    let d : has (s .status) TDRE ≡ false = has-TDRE (s .status) ∙ h in
+    let d : has (s .status) TDRE ≡ false = has-flag 8 (s .status) ∙ h in
     rw (t, f, p, d)
 
 pub stop-bit-rests : StopBitRests
@@ -548,7 +548,7 @@ stop-bit-rests q x es later b low e =
             frame =
                 begins-next (steps later (steps es q₁) .sender) te one-left p
                 (tdre-run n w P (0 + clocksIn es) later (steps es q₁) h₁ (omega arith)
-                (sym (has-TDRE (steps es q₁ .sender .status)) ∙ e));
+                (sym (has-flag 8 (steps es q₁ .sender .status)) ∙ e));
           };
     }
 
