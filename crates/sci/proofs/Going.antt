@@ -13,12 +13,13 @@ use lib.ListN.{replicate, length, getD, List·getD-append, getD-replicate, lengt
 use Rattle.steps.specs.Bits.{bit}
 use Rattle.sci.specs.Flags.{receiveFlags}
 use Rattle.sci.specs.Members.{member}
-use Rattle.sci.specs.Status.{markSeen, fallSeen}
+use Rattle.sci.specs.Status.{markSeen}
 use Rattle.sci.specs.Control.{M, bitsOf, frameSamples}
 use Rattle.sci.specs.Framer.{searching, ends, framed}
 use Rattle.sci.specs.Receiver.{three, receiverAfter, received}
 use Rattle.sci.specs.Levels.{stretched, frameLevels, framerAfter, endSample}
-use Rattle.sci.specs.Link.{Event, sample, statusRead, dataRead, happens, history, samplesOf}
+use Rattle.sci.specs.Line.{Op, sample, read, act, acts, looked, fetched, readStatus}
+use Rattle.sci.specs.Link.{samplesOf}
 use Rattle.sci.specs.declared.framer.Framer.{Framer}
 use Rattle.sci.specs.declared.status.Status.{Status}
 use Rattle.sci.specs.declared.receiver.Receiver.{Receiver}
@@ -104,14 +105,15 @@ clean-same f h =
       or = f 3 refl refl ∙ h .or;
     }
 
-clean-read : (s : Status) → Clean s → Clean (fallSeen s receiveFlags)
-clean-read s h =
-    record {
-      pf = fallSeen-clear 0 s receiveFlags (h .pf);
-      fe = fallSeen-clear 1 s receiveFlags (h .fe);
-      nf = fallSeen-clear 2 s receiveFlags (h .nf);
-      or = fallSeen-clear 3 s receiveFlags (h .or);
-    }
+pub clean-clear : (s r : Status) → ((k : ℕ) → isSet k s ≡ false → isSet k r ≡ false) → Clean s → Clean r
+clean-clear s r f h = record { pf = f 0 (h .pf); fe = f 1 (h .fe); nf = f 2 (h .nf); or = f 3 (h .or) }
+
+-- A clear flag stays clear in a read.
+read-clear : (k : ℕ) (scsr scdr : Bool) (s : Status) → isSet k s ≡ false → isSet k (readStatus scsr scdr s) ≡ false
+read-clear k true true s h = fallSeen-clear k (markSeen s) receiveFlags (set-markSeen k s ∙ h)
+read-clear k true false s h = set-markSeen k s ∙ h
+read-clear k false true s h = fallSeen-clear k s receiveFlags h
+read-clear k false false s h = h
 
 -- What the reads have done about RDRF: nothing; status read since it rose; then data read.
 pub data Stage : Type 0 where
@@ -124,14 +126,22 @@ Rdrf waiting s = Unit {0}
 Rdrf seen s = isSet 6 s ≡ true → isMarked 6 s ≡ true
 Rdrf free s = isSet 6 s ≡ false
 
-abbrev pub staged : Event → Stage → Stage
+-- The stage after a look at status, if a read has one; and after its fetch of data, if it has one.
+abbrev lookedAt : Stage → Bool → Stage
+lookedAt waiting true = seen
+lookedAt waiting false = waiting
+lookedAt seen scsr = seen
+lookedAt free scsr = free
+
+abbrev fetchedAt : Stage → Bool → Stage
+fetchedAt waiting scdr = waiting
+fetchedAt seen true = free
+fetchedAt seen false = seen
+fetchedAt free scdr = free
+
+abbrev pub staged : Op → Stage → Stage
 staged (sample x) st = st
-staged statusRead waiting = seen
-staged statusRead seen = seen
-staged statusRead free = free
-staged dataRead waiting = waiting
-staged dataRead seen = free
-staged dataRead free = free
+staged (read scsr scdr) st = fetchedAt (lookedAt st scsr) scdr
 
 pub rdrf-same : (st : Stage) (s s′ : Status) → isSet 6 s′ ≡ isSet 6 s → isMarked 6 s′ ≡ isMarked 6 s → Rdrf st s → Rdrf st s′
 rdrf-same waiting s s′ e m h = tt
@@ -142,25 +152,34 @@ or-right : (a b : Bool) → b ≡ true → a || b ≡ true
 or-right true b e = refl
 or-right false b e = e
 
-pub rdrf-status : (st : Stage) (s : Status) → Rdrf st s → Rdrf (staged statusRead st) (markSeen s)
-rdrf-status waiting s h = λ q. marked-markSeen 6 s ∙ or-right (isMarked 6 s) (isSet 6 s) (sym (set-markSeen 6 s) ∙ q)
-rdrf-status seen s h = λ q. marked-markSeen 6 s ∙ or-right (isMarked 6 s) (isSet 6 s) (sym (set-markSeen 6 s) ∙ q)
-rdrf-status free s h = set-markSeen 6 s ∙ h
+rdrf-looked : (st : Stage) (scsr : Bool) (s : Status) → Rdrf st s → Rdrf (lookedAt st scsr) (looked scsr s)
+rdrf-looked waiting true s h = λ q. marked-markSeen 6 s ∙ or-right (isMarked 6 s) (isSet 6 s) (sym (set-markSeen 6 s) ∙ q)
+rdrf-looked seen true s h = λ q. marked-markSeen 6 s ∙ or-right (isMarked 6 s) (isSet 6 s) (sym (set-markSeen 6 s) ∙ q)
+rdrf-looked free true s h = set-markSeen 6 s ∙ h
+rdrf-looked waiting false s h = h
+rdrf-looked seen false s h = h
+rdrf-looked free false s h = h
 
 falls : (a m : Bool) → (a ≡ true → m ≡ true) → a && not (a && m && true) ≡ false
 falls false m h = refl
 falls true true h = refl
 falls true false h = absurd (false≢true (h refl))
 
-pub rdrf-data : (st : Stage) (s : Status) → Rdrf st s → Rdrf (staged dataRead st) (fallSeen s receiveFlags)
+rdrf-fetched : (st : Stage) (scdr : Bool) (s : Status) → Rdrf st s → Rdrf (fetchedAt st scdr) (fetched scdr s)
 unfolding member
-rdrf-data waiting s h = tt
-rdrf-data seen s h = set-fallSeen 6 s receiveFlags ∙ falls (isSet 6 s) (isMarked 6 s) h
-rdrf-data free s h = fallSeen-clear 6 s receiveFlags h
+rdrf-fetched waiting scdr s h = tt
+rdrf-fetched seen true s h = set-fallSeen 6 s receiveFlags ∙ falls (isSet 6 s) (isMarked 6 s) h
+rdrf-fetched seen false s h = h
+rdrf-fetched free true s h = fallSeen-clear 6 s receiveFlags h
+rdrf-fetched free false s h = h
 
-unfoldable pub stages : List Event → Stage → Stage
+pub rdrf-read : (st : Stage) (scsr scdr : Bool) (s : Status) → Rdrf st s →
+    Rdrf (staged (read scsr scdr) st) (readStatus scsr scdr s)
+rdrf-read st scsr scdr s h = rdrf-fetched (lookedAt st scsr) scdr (looked scsr s) (rdrf-looked st scsr s h)
+
+unfoldable pub stages : List Op → Stage → Stage
 stages [] st = st
-stages (e ∷ es) st = stages es (staged e st)
+stages (o ∷ os) st = stages os (staged o st)
 
 pub record Going (n g : ℕ) (line : List Bool) (k : ℕ) (st : Stage) (p : Received) : Type 0 where
   pub hearing : Hearing n g line k (p .receiver)
@@ -207,50 +226,42 @@ module _ (c g : ℕ) (bits : List Bool) (sized : bitsOf (M c) ≡ length bits) w
             (passed-flags (p .receiver) (p .status) c x q 6 refl refl) (passed-marks (p .receiver) (p .status) c x q 6 refl) (h .rdrf);
       }
 
-  pub going-status : (k : ℕ) (st : Stage) (p : Received) → Going (bitsOf (M c)) g (lineOf g bits) k st p →
-      Going (bitsOf (M c)) g (lineOf g bits) k (staged statusRead st)
-      (record { receiver = p .receiver; status = markSeen (p .status) })
-  going-status k st p h =
+  pub going-read : (k : ℕ) (st : Stage) (p : Received) (scsr scdr : Bool) → Going (bitsOf (M c)) g (lineOf g bits) k st p →
+      Going (bitsOf (M c)) g (lineOf g bits) k (staged (read scsr scdr) st)
+      (record { receiver = p .receiver; status = readStatus scsr scdr (p .status) })
+  going-read k st p scsr scdr h =
       record {
         hearing = h .hearing;
-        clean = clean-same (λ j e f. set-markSeen j (p .status)) (h .clean);
-        rdrf = rdrf-status st (p .status) (h .rdrf);
+        clean =
+            clean-clear (p .status) (readStatus scsr scdr (p .status)) (λ j. read-clear j scsr scdr (p .status)) (h .clean);
+        rdrf = rdrf-read st scsr scdr (p .status) (h .rdrf);
       }
 
-  pub going-data : (k : ℕ) (st : Stage) (p : Received) → Going (bitsOf (M c)) g (lineOf g bits) k st p →
-      Going (bitsOf (M c)) g (lineOf g bits) k (staged dataRead st)
-      (record { receiver = p .receiver; status = fallSeen (p .status) receiveFlags })
-  going-data k st p h =
-      record { hearing = h .hearing; clean = clean-read (p .status) (h .clean); rdrf = rdrf-data st (p .status) (h .rdrf) }
-
   -- Samples that are the line's from k on.
-  pub going : (es : List Event) (k : ℕ) (st : Stage) (p : Received) → Going (bitsOf (M c)) g (lineOf g bits) k st p →
-      ((j : ℕ) → j < length (samplesOf es) → getD (samplesOf es) j true ≡ getD (lineOf g bits) (k + j) true) →
-      k + length (samplesOf es) ≤ g + endSample (bitsOf (M c)) →
-      Going (bitsOf (M c)) g (lineOf g bits) (k + length (samplesOf es)) (stages es st) (history c es p)
-  unfolding history happens samplesOf stages
+  pub going : (os : List Op) (k : ℕ) (st : Stage) (p : Received) → Going (bitsOf (M c)) g (lineOf g bits) k st p →
+      ((j : ℕ) → j < length (samplesOf os) → getD (samplesOf os) j true ≡ getD (lineOf g bits) (k + j) true) →
+      k + length (samplesOf os) ≤ g + endSample (bitsOf (M c)) →
+      Going (bitsOf (M c)) g (lineOf g bits) (k + length (samplesOf os)) (stages os st) (acts c os p)
+  unfolding acts act samplesOf stages
   going [] k st p h a l =
       let z : k ≡ k + 0 = omega arith in
       subst (λ (j : ℕ). Going (bitsOf (M c)) g (lineOf g bits) j st p) z h
-  going (sample x ∷ es) k st p h a l =
-      let z : suc k + length (samplesOf es) ≡ k + suc (length (samplesOf es)) = omega arith in
+  going (sample x ∷ os) k st p h a l =
+      let z : suc k + length (samplesOf os) ≡ k + suc (length (samplesOf os)) = omega arith in
       let z0 : k + 0 ≡ k = omega arith in
       subst
       (λ (j : ℕ).
-      Going (bitsOf (M c)) g (lineOf g bits) j (stages es st) (history c es (received (p .receiver) (p .status) c x)))
+      Going (bitsOf (M c)) g (lineOf g bits) j (stages os st) (acts c os (received (p .receiver) (p .status) c x)))
       z
-      (going es (suc k) st (received (p .receiver) (p .status) c x)
+      (going os (suc k) st (received (p .receiver) (p .status) c x)
       (going-sample k st p x h (a 0 (omega arith) ∙ ap (λ (i : ℕ). getD (lineOf g bits) i true) z0) (omega arith))
       (λ j u.
       let z1 : k + suc j ≡ suc k + j = omega arith in
       a (suc j) (omega arith) ∙ ap (λ (i : ℕ). getD (lineOf g bits) i true) z1)
       (omega arith))
-  going (statusRead ∷ es) k st p h a l =
-      going es k (staged statusRead st) (record { receiver = p .receiver; status = markSeen (p .status) })
-      (going-status k st p h) a l
-  going (dataRead ∷ es) k st p h a l =
-      going es k (staged dataRead st) (record { receiver = p .receiver; status = fallSeen (p .status) receiveFlags })
-      (going-data k st p h) a l
+  going (read scsr scdr ∷ os) k st p h a l =
+      going os k (staged (read scsr scdr) st) (record { receiver = p .receiver; status = readStatus scsr scdr (p .status) })
+      (going-read k st p scsr scdr h) a l
 
 -- The idle count on the way, from q on, and IDLE clear.
 pub record Counting (g q k : ℕ) (r : Receiver) (s : Status) : Type 0 where
@@ -294,35 +305,31 @@ module _ (c g q : ℕ) (bits : List Bool) (low : 0 < g → q + g < frameSamples 
           }
 
   -- Samples that are the line's from k on.
-  pub counting : bitsOf (M c) ≡ length bits → (es : List Event) (k : ℕ) (st : Stage) (p : Received) →
+  pub counting : bitsOf (M c) ≡ length bits → (os : List Op) (k : ℕ) (st : Stage) (p : Received) →
       Going (bitsOf (M c)) g (lineOf g bits) k st p → Counting g q k (p .receiver) (p .status) →
-      ((j : ℕ) → j < length (samplesOf es) → getD (samplesOf es) j true ≡ getD (lineOf g bits) (k + j) true) →
-      k + length (samplesOf es) ≤ g + endSample (bitsOf (M c)) →
-      Counting g q (k + length (samplesOf es)) (history c es p .receiver) (history c es p .status)
-  unfolding history happens samplesOf
+      ((j : ℕ) → j < length (samplesOf os) → getD (samplesOf os) j true ≡ getD (lineOf g bits) (k + j) true) →
+      k + length (samplesOf os) ≤ g + endSample (bitsOf (M c)) →
+      Counting g q (k + length (samplesOf os)) (acts c os p .receiver) (acts c os p .status)
+  unfolding acts act samplesOf
   counting sized [] k st p h n a l =
       let z : k ≡ k + 0 = omega arith in
       subst (λ (j : ℕ). Counting g q j (p .receiver) (p .status)) z n
-  counting sized (sample x ∷ es) k st p h n a l =
-      let z : suc k + length (samplesOf es) ≡ k + suc (length (samplesOf es)) = omega arith in
+  counting sized (sample x ∷ os) k st p h n a l =
+      let z : suc k + length (samplesOf os) ≡ k + suc (length (samplesOf os)) = omega arith in
       let z0 : k + 0 ≡ k = omega arith in
       let e : x ≡ getD (lineOf g bits) k true = a 0 (omega arith) ∙ ap (λ (i : ℕ). getD (lineOf g bits) i true) z0 in
       let o : On (bitsOf (M c)) g (lineOf g bits) k = on-line (bitsOf (M c)) g bits k sized (omega arith) in
       let p′ : Received = received (p .receiver) (p .status) c x in
-      subst (λ (j : ℕ). Counting g q j (history c es p′ .receiver) (history c es p′ .status)) z
-      (counting sized es (suc k) st p′ (going-sample c g bits sized k st p x h e (omega arith))
+      subst (λ (j : ℕ). Counting g q j (acts c os p′ .receiver) (acts c os p′ .status)) z
+      (counting sized os (suc k) st p′ (going-sample c g bits sized k st p x h e (omega arith))
       (counting-sample k (p .receiver) (p .status) x n (ap ends (h .hearing .framer) ∙ o .quiet) e (omega arith))
       (λ j u.
       let z1 : k + suc j ≡ suc k + j = omega arith in
       a (suc j) (omega arith) ∙ ap (λ (i : ℕ). getD (lineOf g bits) i true) z1)
       (omega arith))
-  counting sized (statusRead ∷ es) k st p h n a l =
-      counting sized es k (staged statusRead st) (record { receiver = p .receiver; status = markSeen (p .status) })
-      (going-status c g bits sized k st p h)
-      (record { idle = set-markSeen 4 (p .status) ∙ n .idle; early = n .early; late = n .late })
-      a l
-  counting sized (dataRead ∷ es) k st p h n a l =
-      counting sized es k (staged dataRead st) (record { receiver = p .receiver; status = fallSeen (p .status) receiveFlags })
-      (going-data c g bits sized k st p h)
-      (record { idle = fallSeen-clear 4 (p .status) receiveFlags (n .idle); early = n .early; late = n .late })
+  counting sized (read scsr scdr ∷ os) k st p h n a l =
+      counting sized os k (staged (read scsr scdr) st)
+      (record { receiver = p .receiver; status = readStatus scsr scdr (p .status) })
+      (going-read c g bits sized k st p scsr scdr h)
+      (record { idle = read-clear 4 scsr scdr (p .status) (n .idle); early = n .early; late = n .late })
       a l

@@ -15,7 +15,8 @@ use Rattle.sci.specs.Bits.{parityBit}
 use Rattle.sci.specs.Framer.{ends, frameOf}
 use Rattle.sci.specs.Transmitter.{dataSent, beginsFrame, sent}
 use Rattle.sci.specs.Levels.{lowBits, value, frameLevels, endSample}
-use Rattle.sci.specs.Link.{FramesHeard, Around, sentAround, shown, FramesShown, FramesBegin, ParityRight, dataBits, Event, sample, happens, history, samplesOf, NoError, Ready, Delivered, Linked}
+use Rattle.sci.specs.Line.{Op, sample, read, act, acts}
+use Rattle.sci.specs.Link.{FramesHeard, Around, sentAround, shown, FramesShown, FramesBegin, ParityRight, dataBits, samplesOf, NoError, Ready, Delivered, Linked}
 use Rattle.sci.specs.declared.framer.Framer.{Framer}
 use Rattle.sci.specs.declared.status.Status.{Status}
 use Rattle.sci.specs.declared.receiver.Received.{Received}
@@ -92,12 +93,11 @@ parity-link c w = go (PE c)
     go false = refl
     go true = rw (sent-fits (bitsOf (M c)) w (PT c) (some-bits (M c))) (parity-right (bitsOf (M c)) w (PT c))
 
-pub stages-free : (es : List Event) → stages es free ≡ free
+pub stages-free : (os : List Op) → stages os free ≡ free
 unfolding stages
 stages-free [] = refl
-stages-free (sample x ∷ es) = stages-free es
-stages-free (Event.statusRead ∷ es) = stages-free es
-stages-free (Event.dataRead ∷ es) = stages-free es
+stages-free (sample x ∷ os) = stages-free os
+stages-free (read scsr scdr ∷ os) = stages-free os
 
 ready-clean : (s : Status) → NoError s → Clean s
 ready-clean s h =
@@ -132,67 +132,67 @@ module _ (t : Transmitter) (s : Status) (c : ℕ) (p : Received) (d : ℕ) (begi
   long : suc (endSample n) ≤ length (frameLevels bits)
   long = rw (levels-length n (dataBits c (t .scdr))) (omega arith)
 
-  before : (later : List Around) (es : List Event) → length later < endSample n →
-      samplesOf es ≡ shown later (sent t s c .transmitter) → has (history d es p .status) RDRF ≡ false
-  before later es l e =
-      let f : samplesOf es ≡ take (suc (length later)) (frameLevels bits) = e ∙ levels later (omega arith) in
-      let m : length (samplesOf es) ≡ suc (length later) =
+  before : (later : List Around) (os : List Op) → length later < endSample n →
+      samplesOf os ≡ shown later (sent t s c .transmitter) → has (acts d os p .status) RDRF ≡ false
+  before later os l e =
+      let f : samplesOf os ≡ take (suc (length later)) (frameLevels bits) = e ∙ levels later (omega arith) in
+      let m : length (samplesOf os) ≡ suc (length later) =
       ap length f ∙ length-take-le (suc (length later)) (frameLevels bits) (omega (arith, long)) in
       let b : bitsOf (M d) ≡ n = ap bitsOf (sym (same-M c d same)) in
-      let h : Going (bitsOf (M d)) 0 (frameLevels bits) (0 + length (samplesOf es)) (stages es free) (history d es p) =
-      going d 0 bits sized es 0 free p (start (bitsOf (M d)) 0 bits free p (ready-rested p ready))
+      let h : Going (bitsOf (M d)) 0 (frameLevels bits) (0 + length (samplesOf os)) (stages os free) (acts d os p) =
+      going d 0 bits sized os 0 free p (start (bitsOf (M d)) 0 bits free p (ready-rested p ready))
       (λ j u.
       let z : j ≡ 0 + j = omega arith in
       ap (λ (xs : List Bool). getD xs j true) f ∙ getD-take (suc (length later)) (frameLevels bits) j true (omega arith)
       ∙ ap (λ (i : ℕ). getD (frameLevels bits) i true) z)
       (omega arith) in
-      has-flag 6 (history d es p .status) ∙ subst (λ (st : Stage). Rdrf st (history d es p .status)) (stages-free es) (h .rdrf)
+      has-flag 6 (acts d os p .status) ∙ subst (λ (st : Stage). Rdrf st (acts d os p .status)) (stages-free os) (h .rdrf)
 
   -- The state before the frame's last sample, which is one.
-  module _ (later : List Around) (es : List Event) (x : Bool) (l : length later ≡ endSample n)
-      (e : samplesOf es ++ (x ∷ []) ≡ shown later (sent t s c .transmitter)) where
-    f : samplesOf es ++ (x ∷ []) ≡ take (suc (length later)) (frameLevels bits)
+  module _ (later : List Around) (os : List Op) (x : Bool) (l : length later ≡ endSample n)
+      (e : samplesOf os ++ (x ∷ []) ≡ shown later (sent t s c .transmitter)) where
+    f : samplesOf os ++ (x ∷ []) ≡ take (suc (length later)) (frameLevels bits)
     f = e ∙ levels later (omega arith)
 
     b : bitsOf (M d) ≡ n
     b = ap bitsOf (sym (same-M c d same))
 
-    m : length (samplesOf es) ≡ endSample n
+    m : length (samplesOf os) ≡ endSample n
     m =
-        let z : length (samplesOf es) + 1 ≡ suc (length later) =
-        sym (length-append (samplesOf es) (x ∷ [])) ∙ ap length f
+        let z : length (samplesOf os) + 1 ≡ suc (length later) =
+        sym (length-append (samplesOf os) (x ∷ [])) ∙ ap length f
         ∙ length-take-le (suc (length later)) (frameLevels bits) (omega (arith, long)) in
         omega arith
 
     one : x ≡ true
     one =
-        let z : length (samplesOf es) ≡ 0 + (16 * length bits + 16 + 9) = omega (arith, m, low-length n (dataBits c (t .scdr))) in
-        sym (getD-append-seam (samplesOf es) x [] true) ∙ ap (λ (xs : List Bool). getD xs (length (samplesOf es)) true) f
-        ∙ getD-take (suc (length later)) (frameLevels bits) (length (samplesOf es)) true (omega (arith, m))
+        let z : length (samplesOf os) ≡ 0 + (16 * length bits + 16 + 9) = omega (arith, m, low-length n (dataBits c (t .scdr))) in
+        sym (getD-append-seam (samplesOf os) x [] true) ∙ ap (λ (xs : List Bool). getD xs (length (samplesOf os)) true) f
+        ∙ getD-take (suc (length later)) (frameLevels bits) (length (samplesOf os)) true (omega (arith, m))
         ∙ ap (λ (i : ℕ). getD (frameLevels bits) i true) z
         ∙ stop-level 0 bits 9 (omega arith)
 
-    agree : (j : ℕ) → j < length (samplesOf es) → getD (samplesOf es) j true ≡ getD (frameLevels bits) (0 + j) true
+    agree : (j : ℕ) → j < length (samplesOf os) → getD (samplesOf os) j true ≡ getD (frameLevels bits) (0 + j) true
     agree j u =
         let z : j ≡ 0 + j = omega arith in
-        sym (List·getD-append (samplesOf es) (x ∷ []) true j u) ∙ ap (λ (xs : List Bool). getD xs j true) f
+        sym (List·getD-append (samplesOf os) (x ∷ []) true j u) ∙ ap (λ (xs : List Bool). getD xs j true) f
         ∙ getD-take (suc (length later)) (frameLevels bits) j true (omega (arith, m))
         ∙ ap (λ (i : ℕ). getD (frameLevels bits) i true) z
 
-    there : 0 + length (samplesOf es) ≡ 0 + endSample (bitsOf (M d))
+    there : 0 + length (samplesOf os) ≡ 0 + endSample (bitsOf (M d))
     there = omega (arith, m, b)
 
-    stands : Going (bitsOf (M d)) 0 (frameLevels bits) (0 + endSample (bitsOf (M d))) free (history d es p)
+    stands : Going (bitsOf (M d)) 0 (frameLevels bits) (0 + endSample (bitsOf (M d))) free (acts d os p)
     stands =
-        subst (λ (st : Stage). Going (bitsOf (M d)) 0 (frameLevels bits) (0 + endSample (bitsOf (M d))) st (history d es p))
-        (stages-free es)
-        (subst (λ (k : ℕ). Going (bitsOf (M d)) 0 (frameLevels bits) k (stages es free) (history d es p)) there
-        (going d 0 bits sized es 0 free p (start (bitsOf (M d)) 0 bits free p (ready-rested p ready)) agree (omega (arith, there))))
+        subst (λ (st : Stage). Going (bitsOf (M d)) 0 (frameLevels bits) (0 + endSample (bitsOf (M d))) st (acts d os p))
+        (stages-free os)
+        (subst (λ (k : ℕ). Going (bitsOf (M d)) 0 (frameLevels bits) k (stages os free) (acts d os p)) there
+        (going d 0 bits sized os 0 free p (start (bitsOf (M d)) 0 bits free p (ready-rested p ready)) agree (omega (arith, there))))
 
-    counted : Counting 0 (p .receiver .idle) (0 + endSample (bitsOf (M d))) (history d es p .receiver) (history d es p .status)
+    counted : Counting 0 (p .receiver .idle) (0 + endSample (bitsOf (M d))) (acts d os p .receiver) (acts d os p .status)
     counted =
-        subst (λ (k : ℕ). Counting 0 (p .receiver .idle) k (history d es p .receiver) (history d es p .status)) there
-        (counting d 0 (p .receiver .idle) bits (λ z. absurd (omega arith)) sized es 0 free p
+        subst (λ (k : ℕ). Counting 0 (p .receiver .idle) k (acts d os p .receiver) (acts d os p .status)) there
+        (counting d 0 (p .receiver .idle) bits (λ z. absurd (omega arith)) sized os 0 free p
         (start (bitsOf (M d)) 0 bits free p (ready-rested p ready))
         (record { idle = sym (has-flag 4 (p .status)) ∙ ready .idle; early = λ z. omega arith; late = λ z. absurd (omega arith) })
         agree
@@ -202,17 +202,17 @@ module _ (t : Transmitter) (s : Status) (c : ℕ) (p : Received) (d : ℕ) (begi
     even =
         rw (← same-PE c d same, ← same-PT c d same, value-low n (dataBits c (t .scdr))) (parity-link c (t .scdr))
 
-    arrives : Delivered (dataBits c (t .scdr) % 2 ^ n) (happens d (sample x) (history d es p))
-    unfolding happens
+    arrives : Delivered (dataBits c (t .scdr) % 2 ^ n) (act d (sample x) (acts d os p))
+    unfolding act
     arrives =
-        subst (λ (v : ℕ). Delivered v (happens d (sample x) (history d es p))) (value-low n (dataBits c (t .scdr)))
-        (delivered d 0 bits sized (history d es p) stands x one even)
+        subst (λ (v : ℕ). Delivered v (act d (sample x) (acts d os p))) (value-low n (dataBits c (t .scdr)))
+        (delivered d 0 bits sized (acts d os p) stands x one even)
 
-    no-idle : has (happens d (sample x) (history d es p) .status) IDLE ≡ false
-    unfolding happens
+    no-idle : has (act d (sample x) (acts d os p) .status) IDLE ≡ false
+    unfolding act
     no-idle =
-        has-flag 4 (happens d (sample x) (history d es p) .status)
-        ∙ idle-again d 0 bits sized (history d es p) stands x one even (p .receiver .idle) counted
+        has-flag 4 (act d (sample x) (acts d os p) .status)
+        ∙ idle-again d 0 bits sized (acts d os p) stands x one even (p .receiver .idle) counted
 
 pub linked : Linked
 linked t s c p d begins same ready =

@@ -19,7 +19,8 @@ use Rattle.sci.specs.Receiver.{three, received}
 use Rattle.sci.specs.Transmitter.{runs, beginsFrame, free as free′, ends, sent}
 use Rattle.sci.specs.Serial.{active, due, heard, afterSent, sampled, counted, prescaled, clocked, sccr1Word, withSleep, withSccr1, stopped, wroteSccr1}
 use Rattle.sci.specs.Levels.{value, framerAfter, endSample}
-use Rattle.sci.specs.Link.{dataBits, statusRead as sawStatus, dataRead as sawData, Delivered}
+use Rattle.sci.specs.Line.{read}
+use Rattle.sci.specs.Link.{dataBits, Delivered}
 use Rattle.sci.specs.Wire.{Access, readStatus, readData, writeData, writeControl, accessed, Same, hearing}
 use Rattle.sci.specs.declared.status.Status.{Status}
 use Rattle.sci.specs.declared.receiver.Receiver.{Receiver}
@@ -29,7 +30,7 @@ use Rattle.sci.specs.declared.serial.Sci.{Sci}
 use Rattle.sci.proofs.Flagged.{isSet, isMarked, marked-raiseIf, set-markSeen, raise-off, raise-keeps, fall-keeps, fallSeen-keeps, fallSeen-keeps-marked, fallSeen-clear}
 use Rattle.sci.proofs.Sending.{and-left, Sending, keeps-sending, begins-sending, no-frame}
 use Rattle.sci.proofs.Samples.{transmit-flags}
-use Rattle.sci.proofs.Going.{lineOf, Rested, start, Hearing, Clean, Stage, waiting, free, staged, Rdrf, rdrf-same, rdrf-status, rdrf-data, Going, going-sample}
+use Rattle.sci.proofs.Going.{lineOf, Rested, start, Hearing, clean-clear, Stage, waiting, free, staged, Rdrf, rdrf-same, rdrf-read, Going, going-sample}
 use Rattle.sci.proofs.Arriving.{delivered, still-clean, searches-again, ones-again, awake-again}
 use Rattle.sci.proofs.Linked.{same-M, same-PE, same-PT}
 
@@ -170,8 +171,8 @@ going-sent n g line k st p t c r =
 
 -- What an access does about RDRF.
 abbrev pub heeded : Access → Stage → Stage
-heeded readStatus st = staged sawStatus st
-heeded readData st = staged sawData st
+heeded readStatus st = staged (read true false) st
+heeded readData st = staged (read false true) st
 heeded (writeData v upper) st = st
 heeded (writeControl v upper lower) st = st
 
@@ -201,7 +202,7 @@ untouched s readStatus on h =
       on = refl;
       prescaler = refl;
       clear = λ k e. set-markSeen k (s .status) ∙ e;
-      rdrf = λ st h. rdrf-status st (s .status) h;
+      rdrf = λ st h. rdrf-read st true false (s .status) h;
     }
 untouched s readData on h =
     record {
@@ -211,7 +212,7 @@ untouched s readData on h =
       on = refl;
       prescaler = refl;
       clear = λ k e. fallSeen-clear k (s .status) receiveFlags e;
-      rdrf = λ st h. rdrf-data st (s .status) h;
+      rdrf = λ st h. rdrf-read st false true (s .status) h;
     }
 untouched s (writeData v upper) on h =
     record {
@@ -242,9 +243,6 @@ untouched s (writeControl v upper lower) on h = go (RE new) refl h
           rdrf = λ st z. z;
         }
     go false e m = absurd (false≢true (sym e ∙ sym (re-kept new) ∙ m .on ∙ on))
-
-clean-clear : (s r : Status) → ((k : ℕ) → isSet k s ≡ false → isSet k r ≡ false) → Clean s → Clean r
-clean-clear s r f h = record { pf = f 0 (h .pf); fe = f 1 (h .fe); nf = f 2 (h .nf); or = f 3 (h .or) }
 
 -- The receiver's sample.
 sample-heard : (s : Sci) (x : Bool) → RE (s .sccr1) ≡ true →
@@ -319,11 +317,11 @@ module _ (c g : ℕ) (bits : List Bool) (sized : bitsOf (M c) ≡ length bits) (
         count = ap (λ (r : Sci). r .prescaler) takes ∙ m .prescaler;
       }
 
-  module _ (e : k ≡ g + endSample (bitsOf (M c))) (read : st ≡ free) (one : x ≡ true)
+  module _ (e : k ≡ g + endSample (bitsOf (M c))) (taken : st ≡ free) (one : x ≡ true)
       (even : PE c && parityBit (PT c) (value bits) ≡ false) where
     stands : Going (bitsOf (M (s .sccr1))) g (lineOf g bits) (g + endSample (bitsOf (M (s .sccr1)))) free told
     stands =
-        subst (λ (i : Stage). Going (bitsOf (M (s .sccr1))) g (lineOf g bits) (g + endSample (bitsOf (M (s .sccr1)))) i told) read
+        subst (λ (i : Stage). Going (bitsOf (M (s .sccr1))) g (lineOf g bits) (g + endSample (bitsOf (M (s .sccr1)))) i told) taken
         (subst (λ (j : ℕ). Going (bitsOf (M (s .sccr1))) g (lineOf g bits) j st told)
         (e ∙ ap (λ (n : ℕ). g + endSample n) (sym same-n)) before)
 

@@ -11,7 +11,8 @@ use lib.Seq.{take-length, getD-take, getD-append-add, getD-append-seam}
 use Rattle.sci.specs.Control.{PT, PE, M, bitsOf, frameSamples, settings}
 use Rattle.sci.specs.Bits.{parityBit}
 use Rattle.sci.specs.Levels.{lowBits, value, frameLevels, endSample}
-use Rattle.sci.specs.Link.{sentAround, shown, dataBits, Event, sample, statusRead, dataRead, happens, history, samplesOf, Delivered}
+use Rattle.sci.specs.Line.{Op, sample, read, act, acts}
+use Rattle.sci.specs.Link.{sentAround, shown, dataBits, samplesOf, Delivered}
 use Rattle.sci.specs.BackToBack.{Turn, sentAll, levelsOf, samplesIn, Begins, Sends, readsData, readsBoth, Attended, WordForWord, BackToBack}
 use Rattle.sci.specs.declared.receiver.Received.{Received}
 use Rattle.sci.specs.declared.transmitter.Transmitter.{Transmitter}
@@ -42,19 +43,20 @@ six-left g n bits rest e m j = go (decLt j 6)
         ∙ sym (getD-append-add (replicate 6 true) rest (j - 6) true) ∙ ap (λ (i : ℕ). getD (replicate 6 true ++ rest) i true) y
 
 -- The reads that a turn asks for make RDRF fall.
-sees : (es : List Event) → readsData es ≡ true → stages es seen ≡ free
+sees : (os : List Op) → readsData os ≡ true → stages os seen ≡ free
 unfolding readsData stages
 sees [] h = absurd (false≢true h)
-sees (sample x ∷ es) h = sees es h
-sees (statusRead ∷ es) h = sees es h
-sees (dataRead ∷ es) h = stages-free es
+sees (sample x ∷ os) h = sees os h
+sees (read scsr true ∷ os) h = stages-free os
+sees (read scsr false ∷ os) h = sees os h
 
-pub both : (es : List Event) → readsBoth es ≡ true → stages es waiting ≡ free
+pub both : (os : List Op) → readsBoth os ≡ true → stages os waiting ≡ free
 unfolding readsBoth stages
 both [] h = absurd (false≢true h)
-both (sample x ∷ es) h = both es h
-both (statusRead ∷ es) h = sees es h
-both (dataRead ∷ es) h = both es h
+both (sample x ∷ os) h = both os h
+both (read true true ∷ os) h = stages-free os
+both (read true false ∷ os) h = sees os h
+both (read false scdr ∷ os) h = both os h
 
 -- One turn: g ones, then the frame of these bits, then the rest of the line.
 record Turned (d : ℕ) (bits rest more : List Bool) (p : Received) : Type 0 where
@@ -62,27 +64,27 @@ record Turned (d : ℕ) (bits rest more : List Bool) (p : Received) : Type 0 whe
   rested : Rested waiting p
   agree : (j : ℕ) → j < length more → getD more j true ≡ getD (replicate 6 true ++ rest) j true
 
-turn : (d g : ℕ) (st : Stage) (p : Received) (es : List Event) (x : Bool) (bits rest more : List Bool) → bitsOf (M d) ≡ length bits →
+turn : (d g : ℕ) (st : Stage) (p : Received) (os : List Op) (x : Bool) (bits rest more : List Bool) → bitsOf (M d) ≡ length bits →
     length (frameLevels bits) ≡ frameSamples (bitsOf (M d)) → PE d && parityBit (PT d) (value bits) ≡ false → Rested st p →
-    stages es st ≡ free → length (samplesOf es) ≡ g + endSample (bitsOf (M d)) →
-    ((j : ℕ) → j < length (samplesOf es ++ (x ∷ more)) → getD (samplesOf es ++ (x ∷ more)) j true ≡ getD (lineOf g bits ++ rest) j true) →
-    Turned d bits rest more (happens d (sample x) (history d es p))
-unfolding happens
-turn d g st p es x bits rest more sized long even r staged m agree =
+    stages os st ≡ free → length (samplesOf os) ≡ g + endSample (bitsOf (M d)) →
+    ((j : ℕ) → j < length (samplesOf os ++ (x ∷ more)) → getD (samplesOf os ++ (x ∷ more)) j true ≡ getD (lineOf g bits ++ rest) j true) →
+    Turned d bits rest more (act d (sample x) (acts d os p))
+unfolding act
+turn d g st p os x bits rest more sized long even r staged m agree =
     record {
-      word = delivered d g bits sized (history d es p) stands x one even;
+      word = delivered d g bits sized (acts d os p) stands x one even;
       rested =
           record {
-            searches = searches-again d g bits sized (history d es p) stands x one even;
-            ones = ones-again d g bits sized (history d es p) stands x one even;
-            awake = awake-again d g bits sized (history d es p) stands x one even;
-            clean = still-clean d g bits sized (history d es p) stands x one even;
+            searches = searches-again d g bits sized (acts d os p) stands x one even;
+            ones = ones-again d g bits sized (acts d os p) stands x one even;
+            awake = awake-again d g bits sized (acts d os p) stands x one even;
+            clean = still-clean d g bits sized (acts d os p) stands x one even;
             rdrf = tt;
           };
       agree = λ j u.
-          let z : g + suc (endSample (bitsOf (M d))) + j ≡ length (samplesOf es) + suc j = omega (arith, m) in
-          sym (getD-append-add (samplesOf es) (x ∷ more) (suc j) true)
-          ∙ agree (length (samplesOf es) + suc j) (rw (length-append (samplesOf es) (x ∷ more)) (omega arith))
+          let z : g + suc (endSample (bitsOf (M d))) + j ≡ length (samplesOf os) + suc j = omega (arith, m) in
+          sym (getD-append-add (samplesOf os) (x ∷ more) (suc j) true)
+          ∙ agree (length (samplesOf os) + suc j) (rw (length-append (samplesOf os) (x ∷ more)) (omega arith))
           ∙ ap (λ (i : ℕ). getD (lineOf g bits ++ rest) i true) (sym z)
           ∙ six-left g (bitsOf (M d)) bits rest sized long j;
     }
@@ -90,30 +92,30 @@ turn d g st p es x bits rest more sized long even r staged m agree =
     whole : length (lineOf g bits) ≡ g + frameSamples (bitsOf (M d))
     whole = line-length g bits (bitsOf (M d)) long
 
-    on : (j : ℕ) → j < length (samplesOf es) → getD (samplesOf es) j true ≡ getD (lineOf g bits) (0 + j) true
+    on : (j : ℕ) → j < length (samplesOf os) → getD (samplesOf os) j true ≡ getD (lineOf g bits) (0 + j) true
     on j u =
         let z : j ≡ 0 + j = omega arith in
-        sym (List·getD-append (samplesOf es) (x ∷ more) true j u)
-        ∙ agree j (rw (length-append (samplesOf es) (x ∷ more)) (omega arith))
+        sym (List·getD-append (samplesOf os) (x ∷ more) true j u)
+        ∙ agree j (rw (length-append (samplesOf os) (x ∷ more)) (omega arith))
         ∙ List·getD-append (lineOf g bits) rest true j (omega (arith, m, whole))
         ∙ ap (λ (i : ℕ). getD (lineOf g bits) i true) z
 
     one : x ≡ true
     one =
-        let z : length (samplesOf es) ≡ g + (16 * length bits + 16 + 9) = omega (arith, m, sized) in
-        sym (getD-append-seam (samplesOf es) x more true)
-        ∙ agree (length (samplesOf es)) (rw (length-append (samplesOf es) (x ∷ more)) (omega arith))
-        ∙ List·getD-append (lineOf g bits) rest true (length (samplesOf es)) (omega (arith, m, whole))
+        let z : length (samplesOf os) ≡ g + (16 * length bits + 16 + 9) = omega (arith, m, sized) in
+        sym (getD-append-seam (samplesOf os) x more true)
+        ∙ agree (length (samplesOf os)) (rw (length-append (samplesOf os) (x ∷ more)) (omega arith))
+        ∙ List·getD-append (lineOf g bits) rest true (length (samplesOf os)) (omega (arith, m, whole))
         ∙ ap (λ (i : ℕ). getD (lineOf g bits) i true) z ∙ stop-level g bits 9 (omega arith)
 
-    there : 0 + length (samplesOf es) ≡ g + endSample (bitsOf (M d))
+    there : 0 + length (samplesOf os) ≡ g + endSample (bitsOf (M d))
     there = omega (arith, m)
 
-    stands : Going (bitsOf (M d)) g (lineOf g bits) (g + endSample (bitsOf (M d))) free (history d es p)
+    stands : Going (bitsOf (M d)) g (lineOf g bits) (g + endSample (bitsOf (M d))) free (acts d os p)
     stands =
-        subst (λ (s : Stage). Going (bitsOf (M d)) g (lineOf g bits) (g + endSample (bitsOf (M d))) s (history d es p)) staged
-        (subst (λ (k : ℕ). Going (bitsOf (M d)) g (lineOf g bits) k (stages es st) (history d es p)) there
-        (going d g bits sized es 0 st p (start (bitsOf (M d)) g bits st p r) on (omega (arith, there))))
+        subst (λ (s : Stage). Going (bitsOf (M d)) g (lineOf g bits) (g + endSample (bitsOf (M d))) s (acts d os p)) staged
+        (subst (λ (k : ℕ). Going (bitsOf (M d)) g (lineOf g bits) k (stages os st) (acts d os p)) there
+        (going d g bits sized os 0 st p (start (bitsOf (M d)) g bits st p r) on (omega (arith, there))))
 
 -- The bits of a turn, by the transmitter's settings and the receiver's.
 module _ (d : ℕ) (u : Turn) (t : Transmitter) (b : Begins (settings d) u t) where
@@ -148,14 +150,14 @@ module _ (d : ℕ) (u : Turn) (t : Transmitter) (b : Begins (settings d) u t) wh
       ∙ ap (λ (m : Bool). dataBits c (u .begin .scdr) % 2 ^ bitsOf m) (same-M c d (b .same))
 
   -- A turn of a train.
-  one-turn : (g : ℕ) (st : Stage) (p : Received) (rest more : List Bool) → Rested st p → stages (u .events) st ≡ free →
-      length (samplesOf (u .events)) ≡ g + endSample (bitsOf (M d)) →
-      ((j : ℕ) → j < length (samplesOf (u .events) ++ (u .last ∷ more)) →
-      getD (samplesOf (u .events) ++ (u .last ∷ more)) j true
+  one-turn : (g : ℕ) (st : Stage) (p : Received) (rest more : List Bool) → Rested st p → stages (u .ops) st ≡ free →
+      length (samplesOf (u .ops)) ≡ g + endSample (bitsOf (M d)) →
+      ((j : ℕ) → j < length (samplesOf (u .ops) ++ (u .last ∷ more)) →
+      getD (samplesOf (u .ops) ++ (u .last ∷ more)) j true
       ≡ getD (replicate g true ++ (shown (u .later) (sentAround (u .begin) t) ++ rest)) j true) →
-      Turned d bits rest more (happens d (sample (u .last)) (history d (u .events) p))
+      Turned d bits rest more (act d (sample (u .last)) (acts d (u .ops) p))
   one-turn g st p rest more r s m a =
-      turn d g st p (u .events) (u .last) bits rest more sized long even r s m
+      turn d g st p (u .ops) (u .last) bits rest more sized long even r s m
       (λ j l.
       a j l
       ∙ ap (λ (xs : List Bool). getD (replicate g true ++ (xs ++ rest)) j true) levels
@@ -169,10 +171,10 @@ unfolding Sends Attended samplesIn levelsOf WordForWord
 train d [] t p r s h a = tt
 train d (u ∷ us) t p r s h a =
     let t′ : Transmitter = sentAll (u .later) (sentAround (u .begin) t) in
-    let z : Turned d (bits d u t (s .0)) (levelsOf us t′) (samplesIn us) (happens d (sample (u .last)) (history d (u .events) p)) =
-    one-turn d u t (s .0) 6 waiting p (levelsOf us t′) (samplesIn us) r (both (u .events) (h .0 .reads)) (omega (arith, h .0 .spaced)) a in (
-      subst (λ (v : ℕ). Delivered v (happens d (sample (u .last)) (history d (u .events) p))) (word-sent d u t (s .0)) (z .word),
-      train d us t′ (happens d (sample (u .last)) (history d (u .events) p)) (z .rested) (s .1) (h .1) (z .agree),
+    let z : Turned d (bits d u t (s .0)) (levelsOf us t′) (samplesIn us) (act d (sample (u .last)) (acts d (u .ops) p)) =
+    one-turn d u t (s .0) 6 waiting p (levelsOf us t′) (samplesIn us) r (both (u .ops) (h .0 .reads)) (omega (arith, h .0 .spaced)) a in (
+      subst (λ (v : ℕ). Delivered v (act d (sample (u .last)) (acts d (u .ops) p))) (word-sent d u t (s .0)) (z .word),
+      train d us t′ (act d (sample (u .last)) (acts d (u .ops) p)) (z .rested) (s .1) (h .1) (z .agree),
     )
 
 pub back-to-back : BackToBack
@@ -180,11 +182,11 @@ unfolding Sends samplesIn levelsOf WordForWord
 back-to-back d u us t p s r m h e =
     let t′ : Transmitter = sentAll (u .later) (sentAround (u .begin) t) in
     let q : Rested free p = ready-rested p r in
-    let xs : List Bool = samplesOf (u .events) ++ (u .last ∷ samplesIn us) in
+    let xs : List Bool = samplesOf (u .ops) ++ (u .last ∷ samplesIn us) in
     let ys : List Bool = shown (u .later) (sentAround (u .begin) t) ++ levelsOf us t′ in
-    let z : Turned d (bits d u t (s .0)) (levelsOf us t′) (samplesIn us) (happens d (sample (u .last)) (history d (u .events) p)) =
-    one-turn d u t (s .0) 0 free p (levelsOf us t′) (samplesIn us) q (stages-free (u .events)) (omega (arith, m))
+    let z : Turned d (bits d u t (s .0)) (levelsOf us t′) (samplesIn us) (act d (sample (u .last)) (acts d (u .ops) p)) =
+    one-turn d u t (s .0) 0 free p (levelsOf us t′) (samplesIn us) q (stages-free (u .ops)) (omega (arith, m))
     (λ j l. ap (λ (v : List Bool). getD v j true) e ∙ getD-take (length xs) ys j true l) in (
-      subst (λ (v : ℕ). Delivered v (happens d (sample (u .last)) (history d (u .events) p))) (word-sent d u t (s .0)) (z .word),
-      train d us t′ (happens d (sample (u .last)) (history d (u .events) p)) (z .rested) (s .1) h (z .agree),
+      subst (λ (v : ℕ). Delivered v (act d (sample (u .last)) (acts d (u .ops) p))) (word-sent d u t (s .0)) (z .word),
+      train d us t′ (act d (sample (u .last)) (acts d (u .ops) p)) (z .rested) (s .1) h (z .agree),
     )

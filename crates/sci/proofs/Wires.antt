@@ -20,7 +20,8 @@ use Rattle.sci.specs.Bits.{parityBit}
 use Rattle.sci.specs.Transmitter.{beginsFrame}
 use Rattle.sci.specs.Serial.{due, clocked, txd}
 use Rattle.sci.specs.Levels.{lowBits, value, frameLevels, endSample}
-use Rattle.sci.specs.Link.{dataBits, Event, Delivered}
+use Rattle.sci.specs.Line.{Op}
+use Rattle.sci.specs.Link.{dataBits, Delivered}
 use Rattle.sci.specs.Wire.{Wired, Access, readStatus, readData, writeData, writeControl, accessed, Same, Unchanged, Step, clock, atSender, atReceiver, step, steps, clocksIn, readsOf, hearing, Matched, Rests, Word, begun, ended, period, width, Sends, Received, Arrives, AllSent, AllRead, AllReceived, ArriveInTurn, StopBitRests, FrameDrives}
 use Rattle.sci.specs.declared.serial.Sci.{Sci}
 use Rattle.sci.proofs.Flagged.{isSet, has-flag}
@@ -422,10 +423,10 @@ meets : (q : Wired) → Matched q → Meets free q
 meets q m =
     record { rate = m .rate; same = m .same; on = m .on; rested = ready-rested (hearing (q .receiver)) (m .ready) }
 
-stays-free : (xs ys : List Event) → stages ys (stages xs free) ≡ free
+stays-free : (xs ys : List Op) → stages ys (stages xs free) ≡ free
 stays-free xs ys = ap (stages ys) (stages-free xs) ∙ stages-free ys
 
-stages-append : (xs ys : List Event) (st : Stage) → stages (xs ++ ys) st ≡ stages ys (stages xs st)
+stages-append : (xs ys : List Op) (st : Stage) → stages (xs ++ ys) st ≡ stages ys (stages xs st)
 unfolding stages
 stages-append [] ys st = refl
 stages-append (e ∷ xs) ys st = stages-append xs ys (staged e st)

@@ -1,5 +1,5 @@
 -- Demand 2, frames back to back: words sent without pause are received word for word.
-use mathlib.Core.Bool.{Bool, true, false}
+use mathlib.Core.Bool.{Bool, true, false, _||_}
 use mathlib.Core.List.{List, [], _∷_, _++_}
 use mathlib.Core.Path.{_≡_}
 use Prim.Native.Nat.{ℕ, suc, _%_, _^_}
@@ -7,7 +7,8 @@ use lib.ListN.{length, take}
 use Rattle.sci.specs.Control.{M, bitsOf, frameSamples, settings}
 use Rattle.sci.specs.Transmitter.{beginsFrame}
 use Rattle.sci.specs.Levels.{endSample}
-use Rattle.sci.specs.Link.{Around, sentAround, shown, dataBits, Event, sample, statusRead, dataRead, happens, history, samplesOf, Ready, Delivered}
+use Rattle.sci.specs.Line.{Op, sample, read, act, acts}
+use Rattle.sci.specs.Link.{Around, sentAround, shown, dataBits, samplesOf, Ready, Delivered}
 use Rattle.sci.specs.declared.transmitter.Transmitter.{Transmitter}
 use Rattle.sci.specs.declared.receiver.Received.{Received}
 
@@ -16,7 +17,7 @@ use Rattle.sci.specs.declared.receiver.Received.{Received}
 pub record Turn : Type 0 where
   pub begin : Around
   pub later : List Around
-  pub events : List Event
+  pub ops : List Op
   pub last : Bool
 
 unfoldable pub sentAll : List Around → Transmitter → Transmitter
@@ -30,7 +31,7 @@ levelsOf (u ∷ us) t = shown (u .later) (sentAround (u .begin) t) ++ levelsOf u
 
 unfoldable pub samplesIn : List Turn → List Bool
 samplesIn [] = []
-samplesIn (u ∷ us) = samplesOf (u .events) ++ (u .last ∷ samplesIn us)
+samplesIn (u ∷ us) = samplesOf (u .ops) ++ (u .last ∷ samplesIn us)
 
 -- Each frame begins at the sample at which the one before ends, with these settings.
 pub record Begins (set : ℕ) (u : Turn) (t : Transmitter) : Type 0 where
@@ -44,23 +45,22 @@ unfoldable pub Sends : ℕ → List Turn → Transmitter → Type 0
 Sends set [] t = Unit {0}
 Sends set (u ∷ us) t = Begins set u t × Sends set us (sentAll (u .later) (sentAround (u .begin) t))
 
--- Data is read; status is read, and data after it.
-unfoldable pub readsData : List Event → Bool
+-- Data is read; status is read, and data with it or after it.
+unfoldable pub readsData : List Op → Bool
 readsData [] = false
-readsData (sample x ∷ es) = readsData es
-readsData (statusRead ∷ es) = readsData es
-readsData (dataRead ∷ es) = true
+readsData (sample x ∷ os) = readsData os
+readsData (read scsr scdr ∷ os) = scdr || readsData os
 
-unfoldable pub readsBoth : List Event → Bool
+unfoldable pub readsBoth : List Op → Bool
 readsBoth [] = false
-readsBoth (sample x ∷ es) = readsBoth es
-readsBoth (statusRead ∷ es) = readsData es
-readsBoth (dataRead ∷ es) = readsBoth es
+readsBoth (sample x ∷ os) = readsBoth os
+readsBoth (read true scdr ∷ os) = scdr || readsData os
+readsBoth (read false scdr ∷ os) = readsBoth os
 
 -- Status, then data, is read between a frame's end and the next one's.
 pub record Attends (n : ℕ) (u : Turn) : Type 0 where
-  pub spaced : suc (length (samplesOf (u .events))) ≡ frameSamples n
-  pub reads : readsBoth (u .events) ≡ true
+  pub spaced : suc (length (samplesOf (u .ops))) ≡ frameSamples n
+  pub reads : readsBoth (u .ops) ≡ true
 
 unfoldable pub Attended : ℕ → List Turn → Type 0
 Attended n [] = Unit {0}
@@ -71,11 +71,11 @@ unfoldable pub WordForWord : ℕ → List Turn → Received → Type 0
 WordForWord sccr1 [] p = Unit {0}
 WordForWord sccr1 (u ∷ us) p =
     Delivered (dataBits (u .begin .sccr1) (u .begin .scdr) % 2 ^ bitsOf (M sccr1))
-    (happens sccr1 (sample (u .last)) (history sccr1 (u .events) p))
-    × WordForWord sccr1 us (happens sccr1 (sample (u .last)) (history sccr1 (u .events) p))
+    (act sccr1 (sample (u .last)) (acts sccr1 (u .ops) p))
+    × WordForWord sccr1 us (act sccr1 (sample (u .last)) (acts sccr1 (u .ops) p))
 
 abbrev pub BackToBack : Type 0
 BackToBack =
     (sccr1 : ℕ) (u : Turn) (us : List Turn) (t : Transmitter) (p : Received) → Sends (settings sccr1) (u ∷ us) t → Ready p →
-    length (samplesOf (u .events)) ≡ endSample (bitsOf (M sccr1)) → Attended (bitsOf (M sccr1)) us →
+    length (samplesOf (u .ops)) ≡ endSample (bitsOf (M sccr1)) → Attended (bitsOf (M sccr1)) us →
     samplesIn (u ∷ us) ≡ take (length (samplesIn (u ∷ us))) (levelsOf (u ∷ us) t) → WordForWord sccr1 (u ∷ us) p

@@ -1,4 +1,4 @@
--- Demand 3: what reaches a receiver that is on, between resets and writes to SCCR0 and SCCR1, and what is compared of it.
+-- Demands 2 and 3: what reaches a receiver that is on, between resets and writes to SCCR0 and SCCR1; and what demand 3 compares of it.
 use mathlib.Core.Bool.{Bool, true, false, not, _&&_}
 use mathlib.Core.List.{List, [], _∷_}
 use mathlib.Core.Option.{Option, none, some}

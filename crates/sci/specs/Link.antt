@@ -4,13 +4,14 @@ use mathlib.Core.List.{List, [], _∷_, _++_}
 use mathlib.Core.Path.{_≡_}
 use Prim.Native.Nat.{ℕ, suc, _%_, _^_, _<_}
 use lib.ListN.{length, take}
-use Rattle.sci.specs.Flags.{PF, FE, NF, OR, IDLE, RDRF, receiveFlags}
-use Rattle.sci.specs.Status.{has, markSeen, fallSeen}
+use Rattle.sci.specs.Flags.{PF, FE, NF, OR, IDLE, RDRF}
+use Rattle.sci.specs.Status.{has}
 use Rattle.sci.specs.Control.{PT, PE, M, bitsOf, frameSamples, settings}
 use Rattle.sci.specs.Bits.{parityBit}
 use Rattle.sci.specs.Framer.{searching, ends, frameOf}
-use Rattle.sci.specs.Receiver.{three, received}
+use Rattle.sci.specs.Receiver.{three}
 use Rattle.sci.specs.Transmitter.{level, dataSent, frameBits, beginsFrame, sent}
+use Rattle.sci.specs.Line.{Op, sample, read, act, acts}
 use Rattle.sci.specs.Levels.{lowBits, value, frameLevels, framerAt, endSample}
 use Rattle.sci.specs.declared.status.Status.{Status}
 use Rattle.sci.specs.declared.receiver.Received.{Received}
@@ -67,26 +68,11 @@ FramesBegin =
 abbrev pub ParityRight : Type 0
 ParityRight = (n w : ℕ) (pt : Bool) → parityBit pt (dataSent n true pt w) ≡ false
 
--- What comes to a receiver between writes to SCCR0 and SCCR1: samples, and permitted reads of status and data.
-pub data Event : Type 0 where
-  sample : Bool → Event
-  statusRead : Event
-  dataRead : Event
-
-unfoldable pub happens : ℕ → Event → Received → Received
-happens sccr1 (sample x) p = received (p .receiver) (p .status) sccr1 x
-happens sccr1 statusRead p = record { receiver = p .receiver; status = markSeen (p .status) }
-happens sccr1 dataRead p = record { receiver = p .receiver; status = fallSeen (p .status) receiveFlags }
-
-unfoldable pub history : ℕ → List Event → Received → Received
-history sccr1 [] p = p
-history sccr1 (e ∷ es) p = history sccr1 es (happens sccr1 e p)
-
-unfoldable pub samplesOf : List Event → List Bool
+-- The levels that reach a receiver.
+unfoldable pub samplesOf : List Op → List Bool
 samplesOf [] = []
-samplesOf (sample x ∷ es) = x ∷ samplesOf es
-samplesOf (statusRead ∷ es) = samplesOf es
-samplesOf (dataRead ∷ es) = samplesOf es
+samplesOf (sample x ∷ os) = x ∷ samplesOf os
+samplesOf (read scsr scdr ∷ os) = samplesOf os
 
 pub record NoError (s : Status) : Type 0 where
   pub or : has s OR ≡ false
@@ -112,16 +98,16 @@ pub record Delivered (w : ℕ) (p : Received) : Type 0 where
 -- A frame that begins at a sample of the transmitter; the level after the transmitter's sample k is the receiver's sample k.
 pub record Link (t : Transmitter) (s : Status) (sccr1 : ℕ) (p : Received) (sccr1′ : ℕ) : Type 0 where
   -- Before its last sample nothing is taken.
-  pub before : (later : List Around) (es : List Event) → length later < endSample (bitsOf (M sccr1)) →
-      samplesOf es ≡ shown later (sent t s sccr1 .transmitter) → has (history sccr1′ es p .status) RDRF ≡ false
+  pub before : (later : List Around) (os : List Op) → length later < endSample (bitsOf (M sccr1)) →
+      samplesOf os ≡ shown later (sent t s sccr1 .transmitter) → has (acts sccr1′ os p .status) RDRF ≡ false
   -- At it the data bits sent are received.
-  pub last : (later : List Around) (es : List Event) (x : Bool) → length later ≡ endSample (bitsOf (M sccr1)) →
-      samplesOf es ++ (x ∷ []) ≡ shown later (sent t s sccr1 .transmitter) →
-      Delivered (dataBits sccr1 (t .scdr) % 2 ^ bitsOf (M sccr1)) (happens sccr1′ (sample x) (history sccr1′ es p))
+  pub last : (later : List Around) (os : List Op) (x : Bool) → length later ≡ endSample (bitsOf (M sccr1)) →
+      samplesOf os ++ (x ∷ []) ≡ shown later (sent t s sccr1 .transmitter) →
+      Delivered (dataBits sccr1 (t .scdr) % 2 ^ bitsOf (M sccr1)) (act sccr1′ (sample x) (acts sccr1′ os p))
   -- IDLE doesn't rise.
-  pub idle : (later : List Around) (es : List Event) (x : Bool) → length later ≡ endSample (bitsOf (M sccr1)) →
-      samplesOf es ++ (x ∷ []) ≡ shown later (sent t s sccr1 .transmitter) →
-      has (happens sccr1′ (sample x) (history sccr1′ es p) .status) IDLE ≡ false
+  pub idle : (later : List Around) (os : List Op) (x : Bool) → length later ≡ endSample (bitsOf (M sccr1)) →
+      samplesOf os ++ (x ∷ []) ≡ shown later (sent t s sccr1 .transmitter) →
+      has (act sccr1′ (sample x) (acts sccr1′ os p) .status) IDLE ≡ false
 
 abbrev pub Linked : Type 0
 Linked =

@@ -9,7 +9,8 @@ use Rattle.sci.specs.Control.{SCBR, M, TE, RE, bitsOf, frameSamples, set
 use Rattle.sci.specs.Transmitter.{beginsFrame}
 use Rattle.sci.specs.Serial.{due, clocked, statusRead, dataRead, loaded, wroteSccr1, txdDriven, txd}
 use Rattle.sci.specs.Levels.{endSample}
-use Rattle.sci.specs.Link.{dataBits, Event, statusRead as sawStatus, dataRead as sawData, Ready, Delivered}
+use Rattle.sci.specs.Line.{Op, read}
+use Rattle.sci.specs.Link.{dataBits, Ready, Delivered}
 use Rattle.sci.specs.BackToBack.{readsBoth}
 use Rattle.sci.specs.declared.receiver.Received.{Received as Heard}
 use Rattle.sci.specs.declared.serial.Sci.{Sci}
@@ -54,12 +55,12 @@ clocksIn (atSender a ∷ es) = clocksIn es
 clocksIn (atReceiver a ∷ es) = clocksIn es
 
 -- The reads at the receiver.
-unfoldable pub readsOf : List Step → List Event
+unfoldable pub readsOf : List Step → List Op
 readsOf [] = []
 readsOf (clock x ∷ es) = readsOf es
 readsOf (atSender a ∷ es) = readsOf es
-readsOf (atReceiver readStatus ∷ es) = sawStatus ∷ readsOf es
-readsOf (atReceiver readData ∷ es) = sawData ∷ readsOf es
+readsOf (atReceiver readStatus ∷ es) = read true false ∷ readsOf es
+readsOf (atReceiver readData ∷ es) = read false true ∷ readsOf es
 readsOf (atReceiver (writeData v upper) ∷ es) = readsOf es
 readsOf (atReceiver (writeControl v upper lower) ∷ es) = readsOf es
 
