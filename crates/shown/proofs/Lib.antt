@@ -1,1 +1,6 @@
 pub mod Marked
+pub mod Tests
+pub mod Bytes
+pub mod Words
+pub mod Order
+pub mod Demand1

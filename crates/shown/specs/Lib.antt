@@ -1,1 +1,3 @@
 pub mod Marked
+pub mod Refusals
+pub mod Demand1

@@ -1,7 +1,16 @@
-// What is shown of the definitions of the module and its trace: the marked examples.
+// What is shown of the definitions of the module and its trace: demand 1 and the marked examples. There is nothing to compute: each
+// contract is the statement, so that it can't be left out unnoticed.
+ghost use Rattle.shown.specs.Demand1.{Demand1};
 ghost use Rattle.shown.specs.Marked.{Marked};
 
-// Nothing to compute: the contract is the statement, so that it can't be left out unnoticed.
+// Demand 1: each refusal and privilege exactly when document 01 says, and nothing changed.
+pub fn refusals() -> bool
+    ensures { λ r. ⌜ Demand1 ⌝ }
+{
+    true
+}
+
+// K1 to K12.
 pub fn marked_examples() -> bool
     ensures { λ r. ⌜ Marked ⌝ }
 {

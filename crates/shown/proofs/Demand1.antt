@@ -1,0 +1,221 @@
+-- Demand 1, law by law. Assumes nothing.
+use mathlib.Core.Path.{_≡_, refl, sym, ap, _∙_}
+use mathlib.Core.Bool.{Bool, true, false, cond, not, _&&_, _||_}
+use mathlib.Core.List.{List}
+use Prim.Native.Nat.{ℕ, _-_, _^_, _<_, _≤_}
+use native.Mathlib.Omega.{arith}
+use lib.Dec.{eqb, ltb}
+use lib.ListN.{length, take, drop}
+use borrow.Author.Tests.{ne-eqb, lt-ltb, le-ltb, ltb-true}
+use Rattle.qsm.specs.Lanes.{inMap}
+use Rattle.qsm.specs.Decision.{shaped, fits, barred, refusalOf, gate, admitted, decideRead, decideStored, decideWrite, storedBy}
+use Rattle.qsm.specs.Event.{accesses, resets, holds, reads, writes, does, step}
+use Rattle.qsm.specs.declared.state.Module.{Module}
+use Rattle.qsm.specs.declared.decision.Decision.{Decision}
+use Rattle.qsm.specs.declared.event.Access.{Access}
+use Rattle.qsm.specs.declared.event.Access.the-variants.{Read, Write}
+use Rattle.qsm.specs.declared.event.Event.{Event}
+use Rattle.trace.specs.Trace.{parsed, byteAt, byKind, answerLength}
+use Rattle.trace.specs.Play.{Outcome, stopped, answered, followed, turn, play}
+use Rattle.trace.specs.declared.Parsed.{Parsed}
+use Rattle.trace.specs.declared.Parsed.the-variants.{Record, Unknown, Cut}
+use Rattle.trace.proofs.Playing.{unroll}
+use Rattle.trace.proofs.Laws.{earlier-stand, resumes}
+use Rattle.shown.specs.Refusals.{misshapen, malformed, unmapped, unprivileged, unmodelled, guarded, unknown, cut, recordLength}
+use Rattle.shown.specs.Demand1.{blocked, Refusal1, Refusal2, Privilege, Refusal3, Refusal4, Unchanged, Answered, Refusal5, Refusal6, Refusal7, GoesOn, Demand1}
+use Rattle.shown.proofs.Tests.{absurd-bool}
+use Rattle.shown.proofs.Bytes.{misshapen-is, malformed-is, unmapped-is, unprivileged-is}
+use Rattle.shown.proofs.Words.{unmodelled-is, guarded-is}
+use Rattle.shown.proofs.Order.{read-refusal, write-refusal, read-unchanged, write-unchanged, read-blocked, write-blocked, refusal-small, Tests, decided, gives-1, gives-2, gives-privilege, gives-3, gives-4, no-test}
+
+-- ---- accesses
+
+of-read : (m : Module) (s : Bool) (w o : ℕ) →
+    Tests (shaped w o) (inMap w o) (barred m s w o) false false (misshapen w o) (unmapped w o) (unprivileged m s w o) false false
+of-read m s w o =
+    record {
+      first = misshapen-is w o;
+      second = unmapped-is w o;
+      third = unprivileged-is m s w o;
+      fourth = λ h k. refl;
+      fifth = λ h k. refl;
+    }
+
+left : (a b : Bool) → a && b ≡ true → a ≡ true
+left true b h = refl
+left false b h = h
+
+of-write : (m : Module) (s : Bool) (w o v : ℕ) → v < 2 ^ 32 →
+    Tests (shaped w o && fits w v) (inMap w o) (barred m s w o) (storedBy m w o v .unmodelled) (storedBy m w o v .guarded)
+    (malformed w o v) (unmapped w o) (unprivileged m s w o) (unmodelled m w o v) (guarded m w o v)
+of-write m s w o v small =
+    record {
+      first = malformed-is w o v small;
+      second = λ h. unmapped-is w o (left (shaped w o) (fits w v) h);
+      third = λ h. unprivileged-is m s w o (left (shaped w o) (fits w v) h);
+      fourth = λ h k. unmodelled-is m w o v (left (shaped w o) (fits w v) h) k;
+      fifth = λ h k. guarded-is m w o v (left (shaped w o) (fits w v) h) k;
+    }
+
+-- The refusal of a read, and of a write, by the tests.
+read-gives : (k : ℕ) (m : Module) (s : Bool) (w o : ℕ) →
+    eqb (reads m s w o .refusal) k ≡ eqb (refusalOf (decided (shaped w o) (inMap w o) (barred m s w o) false false)) k
+unfolding reads decideRead admitted
+read-gives k m s w o =
+    ap (λ (n : ℕ). eqb n k) (read-refusal (gate (shaped w o) (inMap w o) (barred m s w o)) m w o)
+    ∙ ap (λ (d : Decision). eqb (refusalOf d) k) (no-test (shaped w o) (inMap w o) (barred m s w o))
+
+write-gives : (k : ℕ) (m : Module) (s : Bool) (w o v : ℕ) →
+    eqb (writes m s w o v .refusal) k
+    ≡ eqb (refusalOf (decided (shaped w o && fits w v) (inMap w o) (barred m s w o) (storedBy m w o v .unmodelled) (storedBy m w o v .guarded))) k
+unfolding writes decideStored admitted
+write-gives k m s w o v =
+    ap (λ (n : ℕ). eqb n k)
+    (write-refusal
+    (decided (shaped w o && fits w v) (inMap w o) (barred m s w o) (storedBy m w o v .unmodelled) (storedBy m w o v .guarded)) m
+    (storedBy m w o v))
+
+refusal1 : Refusal1
+unfolding does
+refusal1 = (
+  (λ m s w o. read-gives 1 m s w o ∙ gives-1 _ _ _ _ _ _ _ _ _ _ (of-read m s w o)),
+  (λ m s w o v small. write-gives 1 m s w o v ∙ gives-1 _ _ _ _ _ _ _ _ _ _ (of-write m s w o v small)),
+)
+
+refusal2 : Refusal2
+unfolding does
+refusal2 = (
+  (λ m s w o. read-gives 2 m s w o ∙ gives-2 _ _ _ _ _ _ _ _ _ _ (of-read m s w o)),
+  (λ m s w o v small. write-gives 2 m s w o v ∙ gives-2 _ _ _ _ _ _ _ _ _ _ (of-write m s w o v small)),
+)
+
+privilege : Privilege
+unfolding decideRead decideWrite decideStored admitted
+privilege = (
+  (λ m s w o. ap blocked (no-test (shaped w o) (inMap w o) (barred m s w o)) ∙ gives-privilege _ _ _ _ _ _ _ _ _ _ (of-read m s w o)),
+  (λ m s w o v small. gives-privilege _ _ _ _ _ _ _ _ _ _ (of-write m s w o v small)),
+)
+
+and-false : (a : Bool) → a && false ≡ false
+and-false true = refl
+and-false false = refl
+
+refusal3 : Refusal3
+unfolding does
+refusal3 = (
+  (λ m s w o. read-gives 3 m s w o ∙ gives-3 _ _ _ _ _ _ _ _ _ _ (of-read m s w o) ∙ and-false (not (misshapen w o) && not (unmapped w o) && not (unprivileged m s w o))),
+  (λ m s w o v small. write-gives 3 m s w o v ∙ gives-3 _ _ _ _ _ _ _ _ _ _ (of-write m s w o v small)),
+)
+
+refusal4 : Refusal4
+unfolding does
+refusal4 = (
+  (λ m s w o. read-gives 4 m s w o ∙ gives-4 _ _ _ _ _ _ _ _ _ _ (of-read m s w o) ∙ and-false (not (misshapen w o) && not (unmapped w o) && not (unprivileged m s w o) && not false)),
+  (λ m s w o v small. write-gives 4 m s w o v ∙ gives-4 _ _ _ _ _ _ _ _ _ _ (of-write m s w o v small)),
+)
+
+unchanged-access : (m : Module) (a : Access) → eqb (accesses m a .refusal) 0 ≡ false →
+    (accesses m a .state ≡ m) × (accesses m a .value ≡ 0)
+unfolding reads writes
+unchanged-access m (Read s w o) h = read-unchanged (decideRead m s w o) m w o h
+unchanged-access m (Write s w o v) h = write-unchanged (decideStored m (storedBy m w o v) s w o v) m (storedBy m w o v) h
+
+unchanged : Unchanged
+unfolding does reads writes decideWrite
+unchanged = (
+  unchanged-access,
+  (λ m s w o h. read-blocked (decideRead m s w o) m w o h),
+  (λ m s w o v h. write-blocked (decideStored m (storedBy m w o v) s w o v) m (storedBy m w o v) h),
+)
+
+answered-access : (m : Module) (a : Access) → accesses m a .refusal ≤ 4
+unfolding reads writes
+answered-access m (Read s w o) = rw (read-refusal (decideRead m s w o) m w o) (refusal-small (decideRead m s w o))
+answered-access m (Write s w o v) =
+    rw (write-refusal (decideStored m (storedBy m w o v) s w o v) m (storedBy m w o v))
+    (refusal-small (decideStored m (storedBy m w o v) s w o v))
+
+answers : Answered
+unfolding does resets holds
+answers = ((λ m. refl), (λ m pins rxd n. refl), answered-access)
+
+-- ---- records
+
+no-kind : (a b c d : Bool) (p q r s u : Parsed) → not (a || b || c || d) ≡ true →
+    cond a p (cond b q (cond c r (cond d s u))) ≡ u
+no-kind true b c d p q r s u h = absurd-bool h
+no-kind false true c d p q r s u h = absurd-bool h
+no-kind false false true d p q r s u h = absurd-bool h
+no-kind false false false true p q r s u h = absurd-bool h
+no-kind false false false false p q r s u h = refl
+
+is-cut : (a b c d : Bool) (n : ℕ) (e f g h : Event) → 0 < n → not (a || b || c || d) ≡ false →
+    ltb n (cond a 1 (cond b 5 (cond c 4 8))) ≡ true →
+    cond a (Record e 1) (cond b (cond (ltb n 5) Cut (Record f 5)) (cond c (cond (ltb n 4) Cut (Record g 4)) (cond d (cond (ltb n 8) Cut (Record h 8)) Unknown)))
+    ≡ Cut
+is-cut true b c d n e f g h pos k less = absurd (omega (arith, ltb-true n 1 less))
+is-cut false true c d n e f g h pos k less = rw less
+is-cut false false true d n e f g h pos k less = rw less
+is-cut false false false true n e f g h pos k less = rw less
+is-cut false false false false n e f g h pos k less = absurd-bool (sym k)
+
+is-whole : (a b c d : Bool) (n : ℕ) (e f g h : Event) → not (a || b || c || d) ≡ false →
+    ltb n (cond a 1 (cond b 5 (cond c 4 8))) ≡ false →
+    (x : Event) × (cond a (Record e 1) (cond b (cond (ltb n 5) Cut (Record f 5)) (cond c (cond (ltb n 4) Cut (Record g 4)) (cond d (cond (ltb n 8) Cut (Record h 8)) Unknown)))
+    ≡ Record x (cond a 1 (cond b 5 (cond c 4 8))))
+is-whole true b c d n e f g h k all = (e, refl)
+is-whole false true c d n e f g h k all = (f, rw all)
+is-whole false false true d n e f g h k all = (g, rw all)
+is-whole false false false true n e f g h k all = (h, rw all)
+is-whole false false false false n e f g h k all = absurd-bool (sym k)
+
+-- A trace that isn't over is parsed by its kind.
+begun : (t : List ℕ) → 0 < length t → parsed t ≡ byKind (byteAt t 0) t
+begun t pos = simp (ne-eqb (length t) 0 (λ z. omega arith))
+
+unknown-is : (t : List ℕ) → 0 < length t → unknown t ≡ true → parsed t ≡ Unknown
+unknown-is t pos h = begun t pos ∙ no-kind (eqb (byteAt t 0) 1) (eqb (byteAt t 0) 2) (eqb (byteAt t 0) 3) (eqb (byteAt t 0) 4) _ _ _ _ _ h
+
+cut-is : (t : List ℕ) → 0 < length t → unknown t ≡ false → cut t ≡ true → parsed t ≡ Cut
+cut-is t pos h k =
+    begun t pos
+    ∙ is-cut (eqb (byteAt t 0) 1) (eqb (byteAt t 0) 2) (eqb (byteAt t 0) 3) (eqb (byteAt t 0) 4) (length t) _ _ _ _ pos h k
+
+whole-is : (t : List ℕ) → 0 < length t → unknown t ≡ false → cut t ≡ false →
+    (e : Event) × (parsed t ≡ Record e (recordLength t))
+whole-is t pos h k =
+    let w = is-whole (eqb (byteAt t 0) 1) (eqb (byteAt t 0) 2) (eqb (byteAt t 0) 3) (eqb (byteAt t 0) 4) (length t) _ _ _ _ h k in
+    (w .0, begun t pos ∙ w .1)
+
+refusal5 : Refusal5
+refusal5 m t room pos h = unroll m t room pos ∙ ap (turn play m t room) (unknown-is t pos h)
+
+refusal6 : Refusal6
+refusal6 m t room pos h k = unroll m t room pos ∙ ap (turn play m t room) (cut-is t pos h k)
+
+refusal7 : Refusal7
+refusal7 m t room pos h k less =
+    unroll m t room pos ∙ ap (turn play m t room) (whole-is t pos h k .1) ∙ simp (lt-ltb room answerLength less)
+
+goes-on : GoesOn
+goes-on m t room pos h k fits =
+    let w = whole-is t pos h k in
+    (w .0, unroll m t room pos ∙ ap (turn play m t room) (w .1) ∙ simp (le-ltb room answerLength fits))
+
+pub demand1 : Demand1
+demand1 =
+    record {
+      refusal1 = refusal1;
+      refusal2 = refusal2;
+      privilege = privilege;
+      refusal3 = refusal3;
+      refusal4 = refusal4;
+      unchanged = unchanged;
+      answered = answers;
+      refusal5 = refusal5;
+      refusal6 = refusal6;
+      refusal7 = refusal7;
+      goes-on = goes-on;
+      earlier-stand = earlier-stand;
+      resumes = resumes;
+    }
