@@ -1,12 +1,12 @@
 -- Demand 1, law by law. Assumes nothing.
-use mathlib.Core.Path.{_≡_, refl, sym, ap, _∙_}
+use mathlib.Core.Path.{_≡_, refl, sym, ap, subst, _∙_}
 use mathlib.Core.Bool.{Bool, true, false, cond, not, _&&_, _||_}
-use mathlib.Core.List.{List}
-use Prim.Native.Nat.{ℕ, _-_, _^_, _<_, _≤_}
+use mathlib.Core.List.{List, [], _++_, append-nil}
+use Prim.Native.Nat.{ℕ, suc, _+_, _-_, _^_, _<_, _≤_}
 use native.Mathlib.Omega.{arith}
 use lib.Dec.{eqb, ltb}
-use lib.ListN.{length, take, drop}
-use borrow.Author.Tests.{ne-eqb, lt-ltb, le-ltb, ltb-true}
+use lib.ListN.{length, take, drop, length-append}
+use borrow.Author.Tests.{ne-eqb, eqb-true, eqb-false, ltb-true, ltb-false}
 use Rattle.qsm.specs.Lanes.{inMap}
 use Rattle.qsm.specs.Decision.{shaped, fits, barred, refusalOf, gate, admitted, decideRead, decideStored, decideWrite, storedBy}
 use Rattle.qsm.specs.Event.{accesses, resets, holds, reads, writes, does, step}
@@ -19,10 +19,10 @@ use Rattle.trace.specs.Trace.{parsed, byteAt, byKind, answerLength}
 use Rattle.trace.specs.Play.{Outcome, stopped, answered, followed, turn, play}
 use Rattle.trace.specs.declared.Parsed.{Parsed}
 use Rattle.trace.specs.declared.Parsed.the-variants.{Record, Unknown, Cut}
-use Rattle.trace.proofs.Playing.{unroll}
-use Rattle.trace.proofs.Laws.{earlier-stand, resumes}
+use Rattle.trace.proofs.Playing.{unroll, play-none, one-on}
+use Rattle.trace.proofs.Laws.{ten-bytes-each, answers-fit, earlier-stand, resumes}
 use Rattle.shown.specs.Refusals.{misshapen, malformed, unmapped, unprivileged, unmodelled, guarded, unknown, cut, recordLength}
-use Rattle.shown.specs.Demand1.{blocked, Refusal1, Refusal2, Privilege, Refusal3, Refusal4, Unchanged, Answered, Refusal5, Refusal6, Refusal7, GoesOn, Demand1}
+use Rattle.shown.specs.Demand1.{blocked, Refusal1, Refusal2, Privilege, Refusal3, Refusal4, Unchanged, Answered, Refusal5, Refusal6, Refusal7, Ends, rest, left, over, Demand1}
 use Rattle.shown.proofs.Tests.{absurd-bool}
 use Rattle.shown.proofs.Bytes.{misshapen-is, malformed-is, unmapped-is, unprivileged-is}
 use Rattle.shown.proofs.Words.{unmodelled-is, guarded-is}
@@ -41,9 +41,9 @@ of-read m s w o =
       fifth = λ h k. refl;
     }
 
-left : (a b : Bool) → a && b ≡ true → a ≡ true
-left true b h = refl
-left false b h = h
+before : (a b : Bool) → a && b ≡ true → a ≡ true
+before true b h = refl
+before false b h = h
 
 of-write : (m : Module) (s : Bool) (w o v : ℕ) → v < 2 ^ 32 →
     Tests (shaped w o && fits w v) (inMap w o) (barred m s w o) (storedBy m w o v .unmodelled) (storedBy m w o v .guarded)
@@ -51,10 +51,10 @@ of-write : (m : Module) (s : Bool) (w o v : ℕ) → v < 2 ^ 32 →
 of-write m s w o v small =
     record {
       first = malformed-is w o v small;
-      second = λ h. unmapped-is w o (left (shaped w o) (fits w v) h);
-      third = λ h. unprivileged-is m s w o (left (shaped w o) (fits w v) h);
-      fourth = λ h k. unmodelled-is m w o v (left (shaped w o) (fits w v) h) k;
-      fifth = λ h k. guarded-is m w o v (left (shaped w o) (fits w v) h) k;
+      second = λ h. unmapped-is w o (before (shaped w o) (fits w v) h);
+      third = λ h. unprivileged-is m s w o (before (shaped w o) (fits w v) h);
+      fourth = λ h k. unmodelled-is m w o v (before (shaped w o) (fits w v) h) k;
+      fifth = λ h k. guarded-is m w o v (before (shaped w o) (fits w v) h) k;
     }
 
 -- The refusal of a read, and of a write, by the tests.
@@ -187,20 +187,70 @@ whole-is t pos h k =
     let w = is-whole (eqb (byteAt t 0) 1) (eqb (byteAt t 0) 2) (eqb (byteAt t 0) 3) (eqb (byteAt t 0) 4) (length t) _ _ _ _ h k in
     (w .0, begun t pos ∙ w .1)
 
+-- What stops a trace, by the tests of its rest.
+abbrev Stopping : ℕ → Bool → Bool → Bool → Bool → Type 0
+Stopping stop over unknown cut full =
+    (eqb stop 5 ≡ not over && unknown) × (eqb stop 6 ≡ not over && not unknown && cut)
+    × (eqb stop 7 ≡ not over && not unknown && not cut && full) × (eqb stop 0 ≡ over)
+
+some : (t : List ℕ) → over t ≡ false → 0 < length t
+some t h = let ne : length t ≡ 0 → ⊥ = eqb-false (length t) 0 h in omega (arith, ne)
+
+-- A trace of which no record is answered stops before the first.
+first-stop : (m : Module) (t : List ℕ) (room : ℕ) (o u c f : Bool) → over t ≡ o → unknown t ≡ u → cut t ≡ c →
+    ltb room 10 ≡ f → length (play m t room .records) ≡ 0 → Stopping (play m t room .stop) o u c f
+first-stop m t room true u c f io iu ic is none =
+    subst (λ (p : Outcome). Stopping (p .stop) true u c f) (sym (play-none m t room (eqb-true (length t) 0 io))) (refl, refl, refl, refl)
+first-stop m t room false true c f io iu ic is none =
+    subst (λ (p : Outcome). Stopping (p .stop) false true c f)
+    (sym (unroll m t room (some t io) ∙ ap (turn play m t room) (unknown-is t (some t io) iu))) (refl, refl, refl, refl)
+first-stop m t room false false true f io iu ic is none =
+    subst (λ (p : Outcome). Stopping (p .stop) false false true f)
+    (sym (unroll m t room (some t io) ∙ ap (turn play m t room) (cut-is t (some t io) iu ic))) (refl, refl, refl, refl)
+first-stop m t room false false false true io iu ic is none =
+    let full : turn play m t room (Record (whole-is t (some t io) iu ic .0) (recordLength t)) ≡ stopped m 7 = simp is in
+    subst (λ (p : Outcome). Stopping (p .stop) false false false true)
+    (sym (unroll m t room (some t io) ∙ ap (turn play m t room) (whole-is t (some t io) iu ic .1) ∙ full)) (refl, refl, refl, refl)
+first-stop m t room false false false false io iu ic is none =
+    let w = whole-is t (some t io) iu ic in
+    let one : play m t room ≡ followed (answered (step m (w .0)) (take (recordLength t) t)) (play (step m (w .0) .state) (drop (recordLength t) t) (room - 10))
+    = one-on m t room (w .0) (recordLength t) (w .1) (ltb-false room 10 is) in
+    let more : length (play m t room .records) ≡ suc (length (play (step m (w .0) .state) (drop (recordLength t) t) (room - 10) .records))
+    = ap (λ (p : Outcome). length (p .records)) one in
+    absurd (omega (arith, none, more))
+
+-- Playing goes no further from where it stands.
+stands : (m : Module) (t : List ℕ) (room : ℕ) →
+    play m t room ≡ followed (play m t room) (play (play m t room .state) (rest m t room) (left m t room))
+stands m t room =
+    let fit : length (play m t room .answers) + left m t room ≡ room = omega (arith, answers-fit m t room) in
+    ap (λ (k : ℕ). play m t k) (sym fit)
+    ∙ ap (λ (l : List ℕ). play m l (length (play m t room .answers) + left m t room)) (sym (append-nil t))
+    ∙ resumes m t [] room (left m t room)
+    ∙ ap (λ (l : List ℕ). followed (play m t room) (play (play m t room .state) l (left m t room))) (append-nil (rest m t room))
+
+stopping : (m : Module) (t : List ℕ) (room : ℕ) →
+    Stopping (play m t room .stop) (over (rest m t room)) (unknown (rest m t room)) (cut (rest m t room)) (ltb (left m t room) 10)
+stopping m t room =
+    let p : Outcome = play (play m t room .state) (rest m t room) (left m t room) in
+    let long : length (play m t room .records) ≡ length (play m t room .records ++ p .records)
+    = ap (λ (q : Outcome). length (q .records)) (stands m t room) in
+    let none : length (p .records) ≡ 0 = omega (arith, long, length-append (play m t room .records) (p .records)) in
+    subst (λ (k : ℕ). Stopping k (over (rest m t room)) (unknown (rest m t room)) (cut (rest m t room)) (ltb (left m t room) 10))
+    (sym (ap (λ (q : Outcome). q .stop) (stands m t room)))
+    (first-stop (play m t room .state) (rest m t room) (left m t room) _ _ _ _ refl refl refl refl none)
+
 refusal5 : Refusal5
-refusal5 m t room pos h = unroll m t room pos ∙ ap (turn play m t room) (unknown-is t pos h)
+refusal5 m t room = stopping m t room .0
 
 refusal6 : Refusal6
-refusal6 m t room pos h k = unroll m t room pos ∙ ap (turn play m t room) (cut-is t pos h k)
+refusal6 m t room = stopping m t room .1
 
 refusal7 : Refusal7
-refusal7 m t room pos h k less =
-    unroll m t room pos ∙ ap (turn play m t room) (whole-is t pos h k .1) ∙ simp (lt-ltb room answerLength less)
+refusal7 m t room = stopping m t room .2
 
-goes-on : GoesOn
-goes-on m t room pos h k fits =
-    let w = whole-is t pos h k in
-    (w .0, unroll m t room pos ∙ ap (turn play m t room) (w .1) ∙ simp (le-ltb room answerLength fits))
+ends : Ends
+ends m t room = stopping m t room .3
 
 pub demand1 : Demand1
 demand1 =
@@ -215,7 +265,7 @@ demand1 =
       refusal5 = refusal5;
       refusal6 = refusal6;
       refusal7 = refusal7;
-      goes-on = goes-on;
+      ends = ends;
       earlier-stand = earlier-stand;
-      resumes = resumes;
+      ten-bytes-each = ten-bytes-each;
     }

@@ -4,22 +4,21 @@ use mathlib.Core.Path.{_≡_}
 use mathlib.Core.Bool.{Bool, true, false, not, _&&_}
 use mathlib.Core.List.{List}
 use Prim.Native.Nat.{ℕ, _-_, _^_, _<_, _≤_}
-use lib.Dec.{eqb}
-use lib.ListN.{length, take, drop}
+use lib.Dec.{eqb, ltb}
+use lib.ListN.{length}
 use Rattle.qsm.specs.Decision.{decideRead, decideWrite}
-use Rattle.qsm.specs.Event.{done, does, step}
+use Rattle.qsm.specs.Event.{done, does}
 use Rattle.qsm.specs.declared.state.Module.{Module}
 use Rattle.qsm.specs.declared.decision.Decision.{Decision}
 use Rattle.qsm.specs.declared.decision.Decision.the-variants.{Permitted, Blocked, Misshapen, Unmapped, Unmodelled, Guarded}
 use Rattle.qsm.specs.declared.event.Access.{Access}
 use Rattle.qsm.specs.declared.event.Access.the-variants.{Read, Write}
-use Rattle.qsm.specs.declared.event.Event.{Event}
 use Rattle.qsm.specs.declared.event.Event.the-variants.{Reset, Hold}
 use Rattle.qsm.specs.declared.event.Event.the-variants as event
 use Rattle.qsm.specs.declared.event.Done.{Done}
-use Rattle.trace.specs.Play.{Outcome, stopped, answered, followed, play}
-use Rattle.trace.specs.Laws.{EarlierStand, Resumes}
-use Rattle.shown.specs.Refusals.{misshapen, malformed, unmapped, unprivileged, unmodelled, guarded, unknown, cut, recordLength}
+use Rattle.trace.specs.Play.{play}
+use Rattle.trace.specs.Laws.{unread, EarlierStand, TenBytesEach}
+use Rattle.shown.specs.Refusals.{misshapen, malformed, unmapped, unprivileged, unmodelled, guarded, unknown, cut}
 
 -- An access, and the refusal that it is given.
 abbrev pub read : Module → Bool → ℕ → ℕ → Done
@@ -90,30 +89,42 @@ Answered =
     × ((m : Module) (pins : ℕ) (rxd : Bool) (n : ℕ) → does m (Hold pins rxd n) .refusal ≡ 0)
     × ((m : Module) (a : Access) → does m (event.Access a) .refusal ≤ 4)
 
--- The record at the start of a trace that isn't over: 5, 6, 7, or it is answered and the rest is played. Where the trace stops, the
--- module stays, and no byte is written.
+-- Where a trace that was played stands: what is left of it, and of the room.
+abbrev pub rest : Module → List ℕ → ℕ → List ℕ
+rest m t room = unread (play m t room) t
+
+abbrev pub left : Module → List ℕ → ℕ → ℕ
+left m t room = room - length (play m t room .answers)
+
+abbrev pub over : List ℕ → Bool
+over t = eqb (length t) 0
+
+abbrev pub stops : ℕ → Module → List ℕ → ℕ → Bool
+stops k m t room = eqb (play m t room .stop) k
+
 abbrev pub Refusal5 : Type 0
 Refusal5 =
-    (m : Module) (t : List ℕ) (room : ℕ) → 0 < length t → unknown t ≡ true → play m t room ≡ stopped m 5
+    (m : Module) (t : List ℕ) (room : ℕ) → stops 5 m t room ≡ not (over (rest m t room)) && unknown (rest m t room)
 
 abbrev pub Refusal6 : Type 0
 Refusal6 =
-    (m : Module) (t : List ℕ) (room : ℕ) → 0 < length t → unknown t ≡ false → cut t ≡ true →
-    play m t room ≡ stopped m 6
+    (m : Module) (t : List ℕ) (room : ℕ) →
+    stops 6 m t room ≡ not (over (rest m t room)) && not (unknown (rest m t room)) && cut (rest m t room)
 
+-- Fewer than 10 output bytes left.
 abbrev pub Refusal7 : Type 0
 Refusal7 =
-    (m : Module) (t : List ℕ) (room : ℕ) → 0 < length t → unknown t ≡ false → cut t ≡ false → room < 10 →
-    play m t room ≡ stopped m 7
+    (m : Module) (t : List ℕ) (room : ℕ) →
+    stops 7 m t room
+    ≡ not (over (rest m t room)) && not (unknown (rest m t room)) && not (cut (rest m t room))
+    && ltb (left m t room) 10
 
-abbrev pub GoesOn : Type 0
-GoesOn =
-    (m : Module) (t : List ℕ) (room : ℕ) → 0 < length t → unknown t ≡ false → cut t ≡ false → 10 ≤ room →
-    (e : Event)
-    × (play m t room
-    ≡ followed (answered (step m e) (take (recordLength t) t))
-    (play (step m e .state) (drop (recordLength t) t) (room - 10)))
+-- Nothing else stops a trace.
+abbrev pub Ends : Type 0
+Ends = (m : Module) (t : List ℕ) (room : ℕ) → stops 0 m t room ≡ over (rest m t room)
 
+-- The laws of a trace say the rest: after 5 to 7 the module is as after the records answered, and their answers stand; the contract of
+-- `play` says that the output past them is unchanged.
 pub record Demand1 : Type 0 where
   pub refusal1 : Refusal1
   pub refusal2 : Refusal2
@@ -125,6 +136,6 @@ pub record Demand1 : Type 0 where
   pub refusal5 : Refusal5
   pub refusal6 : Refusal6
   pub refusal7 : Refusal7
-  pub goes-on : GoesOn
+  pub ends : Ends
   pub earlier-stand : EarlierStand
-  pub resumes : Resumes
+  pub ten-bytes-each : TenBytesEach
