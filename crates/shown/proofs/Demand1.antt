@@ -15,7 +15,7 @@ use Rattle.qsm.specs.declared.decision.Decision.{Decision}
 use Rattle.qsm.specs.declared.event.Access.{Access}
 use Rattle.qsm.specs.declared.event.Access.the-variants.{Read, Write}
 use Rattle.qsm.specs.declared.event.Event.{Event}
-use Rattle.trace.specs.Trace.{parsed, byteAt, byKind, answerLength}
+use Rattle.trace.specs.Trace.{parsed, byteAt, byKind}
 use Rattle.trace.specs.Play.{Outcome, stopped, answered, followed, turn, play}
 use Rattle.trace.specs.declared.Parsed.{Parsed}
 use Rattle.trace.specs.declared.Parsed.the-variants.{Record, Unknown, Cut}

@@ -1,7 +1,7 @@
 -- K1 to K6 and K11 compute, K7 to K10 are the queue's laws, K12 is two records. Assumes nothing.
 use mathlib.Core.Path.{_≡_, refl, ap, _∙_}
 use mathlib.Core.Bool.{true}
-use mathlib.Core.List.{List, [], _∷_}
+use mathlib.Core.List.{[]}
 use Prim.Native.Nat.{ℕ, _-_, _≤_}
 use native.Mathlib.Omega.{arith}
 use lib.ListN.{take, drop}
@@ -26,7 +26,6 @@ use Rattle.qsm.specs.Request.{request}
 use Rattle.qsm.specs.Event.{answerOf, afterRead, readValue, refused, resets, reads, does, step}
 use Rattle.qsm.specs.declared.state.Module.{Module}
 use Rattle.qsm.specs.declared.event.Access.the-variants.{Read}
-use Rattle.qsm.specs.declared.event.Event.{Event}
 use Rattle.qsm.specs.declared.event.Event.the-variants.{Reset}
 use Rattle.qsm.specs.declared.event.Event.the-variants as event
 use Rattle.steps.specs.Iterate.{iterate}

@@ -1,7 +1,7 @@
 -- Refusals 3 and 4: the module's tests of places are the table's tests of registers by their offsets. Assumes nothing.
-use mathlib.Core.Path.{_≡_, refl, sym, ap, subst, _∙_}
+use mathlib.Core.Path.{_≡_, refl, sym, subst, _∙_}
 use mathlib.Core.Bool.{Bool, true, false, cond, not, _&&_, _||_}
-use Prim.Native.Nat.{ℕ, _+_, _*_, _/_, _%_, _<_, _≤_}
+use Prim.Native.Nat.{ℕ, _+_, _*_, _/_, _%_, _<_}
 use native.Mathlib.Omega.{arith}
 use lib.Dec.{eqb, ltb}
 use Rattle.steps.specs.Iterate.{iterate}
@@ -19,7 +19,7 @@ use Rattle.qsm.specs.declared.map.Place.{Place}
 use Rattle.qsm.specs.declared.map.Place.the-variants.{Queue, Hole}
 use Rattle.qsm.specs.declared.map.QueueWord.the-variants.{Receive, Transmit, Command}
 use Rattle.qsm.specs.declared.state.Module.{Module}
-use Rattle.shown.specs.Refusals.{setsUnmodelled, changesGuarded, either, unmodelled, guarded}
+use Rattle.shown.specs.Refusals.{setsUnmodelled, changesGuarded, unmodelled, guarded}
 use Rattle.shown.proofs.Tests.{split, widths, absurd-bool}
 use Rattle.shown.proofs.Bytes.{in-map-below}
 
