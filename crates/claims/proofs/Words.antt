@@ -1,0 +1,1 @@
+-- The words of an access, as the serial half gets them.

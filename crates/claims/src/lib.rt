@@ -1,0 +1,1 @@
+// The users' demands as claims about the module's events, each held by a contract.
