@@ -1,0 +1,41 @@
+-- The module's events as steps of its serial half.
+use mathlib.Core.Path.{_≡_, refl, ap, sym, subst, _∙_}
+use mathlib.Core.Bool.{Bool, true, false, cond, not, _&&_, _||_, true≢false, false≢true}
+use mathlib.Core.List.{List, [], _∷_, _++_}
+use Prim.Native.Nat.{ℕ, zero, suc, _+_, _/_, _%_, _≤_, _<_}
+use Rattle.qsm.specs.declared.decision.Decision.{Decision}
+use Rattle.qsm.specs.declared.decision.Decision.the-variants.{Permitted, Blocked, Misshapen, Unmapped, Unmodelled, Guarded}
+use Rattle.qsm.specs.Decision.{permits, tested, verdict, gate, admitted, shaped, fits, barred, decideRead, decideStored, decideWrite, storedBy}
+
+-- What a permitted access was tested for.
+pub tested-admitted : (d : Decision) (unmodelled guarded : Bool) → permits (tested d (permits d) unmodelled guarded) ≡ true →
+    permits d ≡ true
+tested-admitted Permitted u g e = refl
+tested-admitted Blocked u g e = e
+tested-admitted Misshapen u g e = e
+tested-admitted Unmapped u g e = e
+tested-admitted Unmodelled u g e = e
+tested-admitted Guarded u g e = e
+
+tested-verdict : (u g : Bool) → permits (verdict u g) ≡ true → g ≡ false
+tested-verdict true g e = absurd (false≢true e)
+tested-verdict false true e = absurd (false≢true e)
+tested-verdict false false e = refl
+
+pub tested-unguarded : (d : Decision) (unmodelled guarded : Bool) → permits (tested d (permits d) unmodelled guarded) ≡ true →
+    guarded ≡ false
+tested-unguarded Permitted u g e = tested-verdict u g e
+tested-unguarded Blocked u g e = absurd (false≢true e)
+tested-unguarded Misshapen u g e = absurd (false≢true e)
+tested-unguarded Unmapped u g e = absurd (false≢true e)
+tested-unguarded Unmodelled u g e = absurd (false≢true e)
+tested-unguarded Guarded u g e = absurd (false≢true e)
+
+pub gate-shaped : (a b c : Bool) → permits (gate a b c) ≡ true → a ≡ true
+gate-shaped true b c e = refl
+gate-shaped false b c e = absurd (false≢true e)
+
+pub gate-mapped : (a b c : Bool) → permits (gate a b c) ≡ true → b ≡ true
+gate-mapped true true c e = refl
+gate-mapped true false c e = absurd (false≢true e)
+gate-mapped false b c e = absurd (false≢true e)
