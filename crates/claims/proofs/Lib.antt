@@ -1,3 +1,5 @@
 pub mod Words
 pub mod Rise
 pub mod Follows
+pub mod Shown
+pub mod Demand3
