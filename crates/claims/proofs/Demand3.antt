@@ -30,7 +30,7 @@ use Rattle.claims.proofs.Shown.{shows-none, status-steps}
 abbrev serial : Module → Sci
 serial m = m .sci
 
-abbrev all : List Event → Module → List Step
+abbrev pub all : List Event → Module → List Step
 all es m = stepsOf after steps es m
 
 run-played : (es : List Event) (m : Module) → played after steps es m ≡ run es m
@@ -86,14 +86,14 @@ unfolding run
 off-end [] m h o = h
 off-end (e ∷ es) m h o = off-end es (after e m) (o .0) (o .1)
 
-reset-serial : resetModule .sci ≡ resetSci
+pub reset-serial : resetModule .sci ≡ resetSci
 unfolding resetModule
 reset-serial = refl
 
 reset-off : on (resetModule .sci) ≡ false
 reset-off = ap on reset-serial
 
-from-reset : (es : List Event) → run es resetModule .sci ≡ sci.run (all es resetModule) resetSci
+pub from-reset : (es : List Event) → run es resetModule .sci ≡ sci.run (all es resetModule) resetSci
 from-reset es = all-run es resetModule ∙ ap (sci.run (all es resetModule)) reset-serial
 
 -- The module compared with, as the serial half compared with.

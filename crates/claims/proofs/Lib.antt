@@ -3,3 +3,4 @@ pub mod Rise
 pub mod Follows
 pub mod Shown
 pub mod Demand3
+pub mod Witness

@@ -115,6 +115,18 @@ shows-none m supervisor width offset h =
     ∙ ap (λ (v : ℕ). flag (bitAnd (byteAt 0x0D width offset v) 95)) (sym (answered m supervisor width offset (h .permitted)))
     ∙ h .none
 
+-- The word at 0C shows what the status is.
+pub word-shows : (m : Module) (supervisor : Bool) → permits (decideRead m supervisor 2 12) ≡ true →
+    shown (m .sci .status) ≡ noFlag → ShowsNone m supervisor 2 12
+word-shows m supervisor e h =
+    record {
+      permitted = e;
+      touching = refl;
+      none =
+          ap (λ (v : ℕ). flag (bitAnd (byteAt 0x0D 2 12 v) 95)) (answered m supervisor 2 12 e)
+          ∙ ap (λ (x : ℕ). flag (bitAnd x 95)) (word-0C m) ∙ shown-byte (m .sci .status) ∙ h;
+    }
+
 -- It reaches the receiver as a status read.
 one-read : (b t scsr scdr : Bool) → b ≡ true → t ≡ true → scsr ≡ true →
     cond (b && t) (reads scsr scdr ∷ []) [] ≡ reads true scdr ∷ []
