@@ -29,7 +29,7 @@ use Rattle.claims.specs.Demand3.{Recovers, Compared}
 use Rattle.claims.specs.Witness.{rate, enable, before, quiet, waited, later, losing, started, enabled, recovering, waiting, status, Met}
 use Rattle.claims.proofs.Follows.{steps, follows}
 use Rattle.claims.proofs.Shown.{word-shows, status-steps}
-use Rattle.claims.proofs.Demand3.{all, all-run, all-ops, all-watched, all-log, from-reset, reset-serial}
+use Rattle.claims.proofs.Lifted.{all, all-run, all-ops, all-watched, all-log, from-reset, reset-serial}
 
 same-before : all before resetModule ≡ half.before
 unfolding resetModule does events.writes events.refused decideWrite decideStored decideRead admitted inMap isRestricted decode storedBy stored store iterate put unmodelled guarded putSerial serialUnmodelled serialGuarded wroteSccr0 wroteSccr1 sccr0Guarded sccr1Guarded
