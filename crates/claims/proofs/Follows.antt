@@ -1,19 +1,19 @@
 -- The module's events as steps of its serial half.
-use mathlib.Core.Path.{_≡_, refl, ap, sym, subst, _∙_}
+use mathlib.Core.Path.{_≡_, refl, ap, sym, _∙_}
 use mathlib.Core.Bool.{Bool, true, false, cond, not, _&&_, _||_, true≢false, false≢true}
 use mathlib.Core.List.{List, [], _∷_, _++_}
 use mathlib.Core.Option.{none}
-use Prim.Native.Nat.{ℕ, zero, suc, _+_, _*_, _/_, _%_, _≤_, _<_}
+use Prim.Native.Nat.{ℕ, zero, suc, _+_, _*_, _/_, _%_, _<_}
 use native.Mathlib.Omega.{arith}
-use borrow.Author.Tests.{eqb-true, ltb-true, ltb-false, lt-ltb}
+use borrow.Author.Tests.{eqb-true, ltb-true, lt-ltb}
 use lib.Dec.{eqb, ltb}
 use Rattle.sci.specs.Flags.{RDRF}
 use Rattle.sci.specs.Status.{has}
 use Rattle.sci.specs.Transmitter.{sent}
 use Rattle.sci.specs.Control.{RE}
-use Rattle.sci.specs.Serial.{resetSci, clocked, statusRead, dataRead}
+use Rattle.sci.specs.Serial.{clocked}
 use Rattle.sci.specs.Line.{Op, sample, read, shown, freshIf, delivers, Seen}
-use Rattle.sci.specs.History.{Step, reset, clock, reads, step, receiving, sampling, seenIf}
+use Rattle.sci.specs.History.{Step, reset, clock, reads, step, sampling, seenIf}
 use Rattle.sci.specs.History as sci
 use Rattle.sci.specs.Overrun.{Mark, lookMarks, deliveryMarks, sampleMarks}
 use Rattle.sci.specs.Overrun as overrun
@@ -340,25 +340,27 @@ touched width offset h₀ h₁ =
 first-apart : (width offset : ℕ) → 0 < width → touches 0x08 4 width offset ≡ false →
     (isSccr0 (decode offset) ≡ false) × (isSccr1 (decode offset) ≡ false)
 unfolding decode
-first-apart width offset h t =
-    (refuted (isSccr0 (decode offset))
-    (λ e. let w : offset / 2 ≡ 4 = placed (offset / 2) .sccr0 e in
-    true≢false (sym (touched width offset (omega (arith, w)) (omega (arith, w, h))) ∙ t)),
-    refuted (isSccr1 (decode offset))
-    (λ e. let w : offset / 2 ≡ 5 = placed (offset / 2) .sccr1 e in
-    true≢false (sym (touched width offset (omega (arith, w)) (omega (arith, w, h))) ∙ t)))
+first-apart width offset h t = (
+  refuted (isSccr0 (decode offset))
+      (λ e. let w : offset / 2 ≡ 4 = placed (offset / 2) .sccr0 e in
+      true≢false (sym (touched width offset (omega (arith, w)) (omega (arith, w, h))) ∙ t)),
+  refuted (isSccr1 (decode offset))
+      (λ e. let w : offset / 2 ≡ 5 = placed (offset / 2) .sccr1 e in
+      true≢false (sym (touched width offset (omega (arith, w)) (omega (arith, w, h))) ∙ t)),
+)
 
 second-apart : (offset : ℕ) → mapped (decode (offset + 2)) ≡ true → touches 0x08 4 4 offset ≡ false →
     (isSccr0 (decode (next offset)) ≡ false) × (isSccr1 (decode (next offset)) ≡ false)
 unfolding decode
 second-apart offset h t =
-    let inside : (offset + 2) / 2 < 168 = placed ((offset + 2) / 2) .inside h in
-    (refuted (isSccr0 (decode (next offset)))
-    (λ e. let w : (offset + 2) % 65536 / 2 ≡ 4 = placed ((offset + 2) % 65536 / 2) .sccr0 e in
-    true≢false (sym (touched 4 offset (omega (arith, w, inside)) (omega (arith, w, inside))) ∙ t)),
-    refuted (isSccr1 (decode (next offset)))
-    (λ e. let w : (offset + 2) % 65536 / 2 ≡ 5 = placed ((offset + 2) % 65536 / 2) .sccr1 e in
-    true≢false (sym (touched 4 offset (omega (arith, w, inside)) (omega (arith, w, inside))) ∙ t)))
+    let inside : (offset + 2) / 2 < 168 = placed ((offset + 2) / 2) .inside h in (
+      refuted (isSccr0 (decode (next offset)))
+          (λ e. let w : (offset + 2) % 65536 / 2 ≡ 4 = placed ((offset + 2) % 65536 / 2) .sccr0 e in
+          true≢false (sym (touched 4 offset (omega (arith, w, inside)) (omega (arith, w, inside))) ∙ t)),
+      refuted (isSccr1 (decode (next offset)))
+          (λ e. let w : (offset + 2) % 65536 / 2 ≡ 5 = placed ((offset + 2) % 65536 / 2) .sccr1 e in
+          true≢false (sym (touched 4 offset (omega (arith, w, inside)) (omega (arith, w, inside))) ∙ t)),
+    )
 
 store-unbroken : (long : Bool) (width offset words : ℕ) (upper lower : Bool) (s : Sci) → eqb width 4 ≡ long →
     0 < width → inMap width offset ≡ true → touches 0x08 4 width offset ≡ false →

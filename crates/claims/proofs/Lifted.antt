@@ -1,8 +1,8 @@
 -- Demand 3, lifted from the serial half to the module's events.
 use mathlib.Core.Path.{_≡_, refl, ap, sym, subst, _∙_}
-use mathlib.Core.Bool.{Bool, true, false}
+use mathlib.Core.Bool.{true, false}
 use mathlib.Core.List.{List, [], _∷_, _++_}
-use Prim.Native.Nat.{ℕ, _≤_}
+use Prim.Native.Nat.{_≤_}
 use Rattle.sci.specs.Control.{RE, settings}
 use Rattle.sci.specs.Line.{Op, Seen, Ones, samplesIn, resyncSamples}
 use Rattle.sci.specs.Serial.{resetSci}
@@ -14,17 +14,19 @@ use Rattle.sci.specs.Overrun as marks
 use Rattle.sci.specs.declared.serial.Sci.{Sci}
 use Rattle.sci.proofs.History.{run-append, ops-append, watched-append, log-append, unbroken-append}
 use Rattle.sci.proofs.Follow.{run-sccr1}
-use Rattle.sci.proofs.Lift.{played, stepsOf, played-run, history, lifted-overrun, lifted-recovered}
+use Rattle.sci.proofs.Lift.{played, stepsOf, played-run, lifted-overrun, lifted-recovered}
 use Rattle.qsm.specs.State.{resetModule}
 use Rattle.qsm.specs.Lanes.{touches}
+use Rattle.qsm.specs.Event.{resets, does, step}
 use Rattle.qsm.specs.declared.state.Module.{Module}
 use Rattle.qsm.specs.declared.event.Access.the-variants.{Read}
 use Rattle.qsm.specs.declared.event.Event.{Event}
 use Rattle.qsm.specs.declared.event.Event.the-variants as event
 use Rattle.claims.specs.History.{after, run, Unbroken, eventOps, ops, eventSeen, watched, eventMarks, log}
-use Rattle.claims.specs.Demand3.{Off, Compared, Recovered, Demand3}
+use Rattle.claims.specs.Demand3.{Off, Compared, Recovered, Afresh, Stepped, Demand3}
 use Rattle.claims.proofs.Rise.{on, Rise, off-append}
 use Rattle.claims.proofs.Follows.{steps, follows, event-ops, event-seen, event-marks, event-unbroken, event-off, event-rise}
+use Rattle.claims.proofs.Touches.{reads-alike}
 use Rattle.claims.proofs.Shown.{shows-none, status-steps}
 
 abbrev serial : Module → Sci
@@ -166,5 +168,14 @@ overrun es =
     subst Overrun (sym (all-log es resetModule ∙ ap (marks.log (all es resetModule)) reset-serial))
     (lifted-overrun after steps serial follows resetModule reset-serial es)
 
+afresh : Afresh
+unfolding run does resets
+afresh [] es m = refl
+afresh (e ∷ past) es m = afresh past es (after e m)
+
+stepped : Stepped
+unfolding step
+stepped m e = refl
+
 pub demand3 : Demand3
-demand3 = record { recovered = recovered; overrun = overrun }
+demand3 = record { recovered = recovered; stepped = stepped; readsAlike = reads-alike; afresh = afresh; overrun = overrun }

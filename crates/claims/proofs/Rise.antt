@@ -1,14 +1,14 @@
 -- A write changes RE at most once: its words are SCCR1's at most once.
 use mathlib.Core.Path.{_≡_, refl, ap, sym, subst, _∙_}
-use mathlib.Core.Bool.{Bool, true, false, cond, true≢false, false≢true}
+use mathlib.Core.Bool.{Bool, true, false, true≢false}
 use mathlib.Core.List.{List, [], _∷_, _++_, append-assoc}
-use Prim.Native.Nat.{ℕ, _+_, _*_, _/_, _%_}
+use Prim.Native.Nat.{ℕ, _+_, _/_, _%_}
 use native.Mathlib.Omega.{arith}
 use lib.Dec.{eqb}
 use Rattle.steps.specs.Bits.{merge}
 use Rattle.sci.specs.Control.{RE, sccr0Bits}
 use Rattle.sci.specs.Serial.{wroteSccr0, sccr0Guarded}
-use Rattle.sci.specs.History.{Step, writesSccr0, writesSccr1, writesScdr, step, run}
+use Rattle.sci.specs.History.{Step, writesSccr0, writesScdr, step, run}
 use Rattle.sci.specs.Demand3.{Off}
 use Rattle.sci.specs.declared.serial.Sci.{Sci}
 use Rattle.sci.proofs.Frames.{by-cond}

@@ -1,8 +1,8 @@
 -- Byte 0D in the answer to any permitted read that touches it is SCSR's low byte.
 use mathlib.Core.Path.{_≡_, refl, ap, sym, subst, _∙_}
-use mathlib.Core.Bool.{Bool, true, false, cond, _&&_, _||_, true≢false, false≢true}
-use mathlib.Core.List.{List, [], _∷_}
-use Prim.Native.Nat.{ℕ, _+_, _*_, _/_, _%_, _≤_, _<_}
+use mathlib.Core.Bool.{Bool, true, false, cond, _&&_, _||_, false≢true}
+use mathlib.Core.List.{[], _∷_}
+use Prim.Native.Nat.{ℕ, _+_, _*_, _/_, _%_, _<_}
 use native.Mathlib.Omega.{arith}
 use borrow.Author.Tests.{eqb-true, ltb-true, ltb-false, lt-ltb}
 use lib.Bits.{bitAnd}
@@ -11,7 +11,7 @@ use Rattle.steps.specs.Iterate.{iterate}
 use Rattle.sci.specs.Flags.{flag}
 use Rattle.sci.specs.Line.{shown, noFlag}
 use Rattle.sci.specs.Serial.{sccr1Word}
-use Rattle.sci.specs.History.{Step, reads}
+use Rattle.sci.specs.History.{reads}
 use Rattle.sci.proofs.History.{shown-byte}
 use Rattle.qsm.specs.Map.{decode}
 use Rattle.qsm.specs.Lanes.{touches, inMap}

@@ -1,11 +1,11 @@
 -- The lists of specs/Witness, by their steps, which are those of the serial half's witness.
-use mathlib.Core.Bool.{Bool, true, false}
+use mathlib.Core.Bool.{true, false}
 use mathlib.Core.List.{List, [], _∷_}
 use mathlib.Core.Path.{_≡_, refl, ap, sym, subst, _∙_}
-use Prim.Native.Nat.{ℕ, _≤_}
+use Prim.Native.Nat.{_≤_}
 use Rattle.steps.specs.Iterate.{iterate}
 use Rattle.sci.specs.Control.{RE, settings}
-use Rattle.sci.specs.Line.{Op, Seen, Ones, samplesIn, resyncSamples, shown, noFlag}
+use Rattle.sci.specs.Line.{Op, Ones, samplesIn, resyncSamples, shown, noFlag}
 use Rattle.sci.specs.Serial.{resetSci, wroteSccr0, wroteSccr1, sccr0Guarded, sccr1Guarded}
 use Rattle.sci.specs.History.{Step}
 use Rattle.sci.specs.History as sci
@@ -28,7 +28,7 @@ use Rattle.claims.specs.History.{after, run, ops, watched, log}
 use Rattle.claims.specs.Demand3.{Recovers, Compared}
 use Rattle.claims.specs.Witness.{rate, enable, before, quiet, waited, later, losing, started, enabled, recovering, waiting, status, Met}
 use Rattle.claims.proofs.Follows.{steps, follows}
-use Rattle.claims.proofs.Shown.{word-shows, status-steps}
+use Rattle.claims.proofs.Shown.{word-shows}
 use Rattle.claims.proofs.Lifted.{all, all-run, all-ops, all-watched, all-log, from-reset, reset-serial}
 
 same-before : all before resetModule ≡ half.before

@@ -1,5 +1,5 @@
 -- The words of an access, as the serial half gets them.
-use mathlib.Core.Path.{_≡_, refl, ap, sym, subst, _∙_}
+use mathlib.Core.Path.{_≡_, refl, ap, sym, _∙_}
 use mathlib.Core.Bool.{Bool, true, false, cond, _||_, true≢false, false≢true}
 use mathlib.Core.List.{List, [], _∷_, _++_}
 use Prim.Native.Nat.{ℕ, _<_, _*_, _/_, _%_}
@@ -7,17 +7,12 @@ use native.Mathlib.Omega.{arith}
 use borrow.Author.Tests.{eqb-true, ltb-true}
 use lib.Dec.{eqb, ltb}
 use Rattle.steps.specs.Iterate.{iterate}
-use Rattle.steps.specs.Bits.{merge}
-use Rattle.sci.specs.Control.{RE, sccr0Bits}
-use Rattle.sci.specs.Serial.{dataWritten, wroteSccr0, sccr0Guarded}
-use Rattle.sci.specs.Line.{Op, Seen}
+use Rattle.sci.specs.Serial.{dataWritten}
 use Rattle.sci.specs.History.{Step, writesSccr0, writesSccr1, writesScdr, step, run, ops, watched, Unbroken}
-use Rattle.sci.specs.Overrun.{Mark, log}
-use Rattle.sci.specs.Demand3.{Off}
+use Rattle.sci.specs.Overrun.{log}
 use Rattle.sci.specs.declared.serial.Sci.{Sci}
 use Rattle.sci.proofs.Frames.{by-cond}
-use Rattle.sci.proofs.History.{run-append, ops-append, watched-append, log-append, unbroken-append, writes-sccr0, writes-sccr1}
-use Rattle.sci.proofs.Follow.{step-sccr1}
+use Rattle.sci.proofs.History.{run-append, ops-append, watched-append, log-append, writes-sccr0, writes-sccr1}
 use Rattle.qsm.specs.Map.{decodeRam, decodeWord, decode, mapped}
 use Rattle.qsm.specs.Own.{putOwn}
 use Rattle.qsm.specs.Serial.{putSerial, serialGuarded}

@@ -1,8 +1,8 @@
 -- Demand 3: one claim about every list of events on a module fresh from reset.
 use mathlib.Core.Bool.{Bool, true, false}
-use mathlib.Core.List.{List, [], _∷_}
+use mathlib.Core.List.{List, [], _∷_, _++_}
 use mathlib.Core.Path.{_≡_}
-use Prim.Native.Nat.{ℕ, _+_, _-_, _*_, _/_, _%_, _^_, _≤_}
+use Prim.Native.Nat.{ℕ, _+_, _-_, _/_, _%_, _^_, _≤_, _<_}
 use Rattle.sci.specs.Flags.{flag, receiveFlags, common}
 use Rattle.sci.specs.Control.{RE, settings}
 use Rattle.sci.specs.Line.{noFlag, Ones, samplesIn, resyncSamples}
@@ -14,8 +14,9 @@ use Rattle.qsm.specs.Event.{step}
 use Rattle.qsm.specs.declared.state.Module.{Module}
 use Rattle.qsm.specs.declared.event.Access.the-variants.{Read}
 use Rattle.qsm.specs.declared.event.Event.{Event}
+use Rattle.qsm.specs.declared.event.Event.the-variants.{Reset}
 use Rattle.qsm.specs.declared.event.Event.the-variants as event
-use Rattle.claims.specs.History.{after, run, Unbroken, ops, watched, log}
+use Rattle.claims.specs.History.{after, run, Unbroken, readOp, ops, watched, log}
 
 -- The byte at a place, of the value that a read of a width at an offset gives: fields are big-endian.
 abbrev pub byteAt : ℕ → ℕ → ℕ → ℕ → ℕ
@@ -69,8 +70,27 @@ Recovered =
     settings (m .sci .sccr1) ≡ settings (c .sci .sccr1) →
     Unbroken later z → Unbroken later′ y → ops later z ≡ ops later′ y → watched later z ≡ watched later′ y
 
+-- Reads are alike where they touch the same of bytes 0C to 0F: both reach the receiver or neither does, and in the same way.
+abbrev pub ReadsAlike : Type 0
+ReadsAlike =
+    (width offset width′ offset′ : ℕ) → 0 < width → 0 < width′ → touches 0x0C 1 width offset ≡ touches 0x0C 1 width′ offset′ →
+    touches 0x0D 1 width offset ≡ touches 0x0D 1 width′ offset′ → touches 0x0E 1 width offset ≡ touches 0x0E 1 width′ offset′ →
+    touches 0x0F 1 width offset ≡ touches 0x0F 1 width′ offset′ →
+    (touches 0x0C 4 width offset ≡ touches 0x0C 4 width′ offset′) × (readOp width offset ≡ readOp width′ offset′)
+
+-- Of what came before a reset nothing is left: histories from a module's last reset on are all its histories.
+abbrev pub Afresh : Type 0
+Afresh = (past es : List Event) (m : Module) → run (past ++ (Reset ∷ es)) m ≡ run es resetModule
+
+-- Each event gets the module that the step of the last one left.
+abbrev pub Stepped : Type 0
+Stepped = (m : Module) (e : Event) → after e m ≡ step m e .state
+
 -- And whatever the line and the firmware do, no word that came after a lost one, with no reset between, is delivered before a permitted
 -- status read made since its run of losses raised OR.
 pub record Demand3 : Type 0 where
   pub recovered : Recovered
+  pub stepped : Stepped
+  pub readsAlike : ReadsAlike
+  pub afresh : Afresh
   pub overrun : (es : List Event) → Overrun (log es resetModule)
