@@ -76,7 +76,7 @@ afterSent s t =
 unfoldable pub sampled : Sci → Bool → Sci
 sampled s x = heard (RE (s .sccr1)) (afterSent s (sent (s .transmitter) (s .status) (s .sccr1))) x
 
--- (No SCBR lets the count come near 65,535.)
+-- (Only with SCBR 0, where no sample comes, can the count get to 65,535.)
 abbrev pub counted : Sci → Sci
 counted s =
     record {

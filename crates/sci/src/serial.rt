@@ -326,7 +326,7 @@ fn listened(re: bool, receiver: Receiver, status: Status, sccr1: u16, x: bool) -
     }
 }
 
-// One clock more; the count stops at its largest value, which no SCBR leaves it reach.
+// One clock more. The count stops at its largest value, which only SCBR 0, with no sample to come, lets it reach.
 fn one_more(n: u16) -> u16
     ensures { λ r. ⌜ r ≡ min 65535 (n + 1) ⌝ }
 {
