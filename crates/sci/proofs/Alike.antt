@@ -1,24 +1,25 @@
 -- Receivers that are alike stay alike, and show the same, under the same samples and reads.
 use mathlib.Core.Path.{_≡_, refl, ap, sym, subst, _∙_}
-use mathlib.Core.Bool.{Bool, true, false, cond, not, _&&_, _||_, true≢false, false≢true}
+use mathlib.Core.Bool.{Bool, true, false, cond, not, _&&_, and-false, true≢false}
 use mathlib.Core.List.{List, [], _∷_}
 use Prim.Native.Nat.{ℕ}
-use Rattle.sci.specs.Flags.{RDRF, OR, IDLE, RAF, receiveFlags}
+use Rattle.sci.specs.Flags.{RDRF, OR, receiveFlags}
 use Rattle.sci.specs.Members.{member}
-use Rattle.sci.specs.Status.{has, raiseIf, fallIf}
+use Rattle.sci.specs.Status.{has, raiseIf}
 use Rattle.sci.specs.Control.{PT, PE, settings}
 use Rattle.sci.specs.Bits.{parityBit}
 use Rattle.sci.specs.Framer.{frameOf}
 use Rattle.sci.specs.Receiver.{outcome, entered, statusAfter, receiverAfter, received}
 use Rattle.sci.specs.Line.{Op, sample, read, act, acts, looked, fetched, readStatus, freshIf, delivers, watch}
 use Rattle.sci.specs.Alike.{Same, line, Alike}
-use Rattle.sci.specs.declared.flags.Flags.{Flags}
 use Rattle.sci.specs.declared.status.Status.{Status}
 use Rattle.sci.specs.declared.framer.Frame.{Frame}
 use Rattle.sci.specs.declared.receiver.Receiver.{Receiver}
 use Rattle.sci.specs.declared.receiver.Outcome.{Outcome}
 use Rattle.sci.specs.declared.receiver.Received.{Received}
-use Rattle.sci.proofs.Flagged.{isSet, has-flag, set-raiseIf, set-fallIf, set-markSeen, set-fallSeen}
+use Rattle.sci.proofs.Membership.{and-left}
+use Rattle.sci.proofs.Flagged.{isSet, has-flag, set-markSeen, set-fallSeen, raise-keeps}
+use Rattle.sci.proofs.Samples.{status-set}
 use Rattle.sci.proofs.Same.{same-refl, same-sym, same-trans, same-has, same-after, same-read}
 use Rattle.sci.proofs.Settings.{act-settings}
 
@@ -54,23 +55,6 @@ pub alike-status : (r : Receiver) (s t : Status) → Same s t →
     Alike (record { receiver = r; status = s }) (record { receiver = r; status = t })
 alike-status r s t e = record { lines = refl; same = e; words = λ h. refl }
 
--- A flag that no frame raises.
-pub set-raise-other : (k : ℕ) (b : Bool) (s : Status) (f : Flags) → member k f ≡ false → isSet k (raiseIf b s f) ≡ isSet k s
-set-raise-other k b s f e = rw (set-raiseIf k b s f, e) (go (isSet k s) b)
-  where
-    go : (a b : Bool) → a || (b && false) ≡ a
-    go true b = refl
-    go false true = refl
-    go false false = refl
-
-pub set-fall-other : (k : ℕ) (b : Bool) (s : Status) (f : Flags) → member k f ≡ false → isSet k (fallIf b s f) ≡ isSet k s
-set-fall-other k b s f e = rw (set-fallIf k b s f, e) (go (isSet k s) b)
-  where
-    go : (a b : Bool) → a && not (b && false) ≡ a
-    go true true = refl
-    go true false = refl
-    go false b = refl
-
 entered-no : (b : Bool) (s : Status) (f : Frame) (bad : Bool) → b ≡ false → entered b s f bad ≡ s
 unfolding entered
 entered-no true s f bad e = absurd (true≢false e)
@@ -79,14 +63,12 @@ entered-no false s f bad e = refl
 -- RDRF rises only with a frame that enters SCDR.
 rdrf-kept : (s : Status) (o : Outcome) (f : Frame) (bad idles : Bool) → o .taken && not (o .lost) ≡ false →
     has (statusAfter s o f bad idles) RDRF ≡ has s RDRF
-unfolding statusAfter member
+unfolding member
 rdrf-kept s o f bad idles e =
     has-flag 6 (statusAfter s o f bad idles)
-    ∙ set-raise-other 6 idles _ IDLE refl
-    ∙ set-fall-other 6 (o .abandoned || o .reached) _ RAF refl
-    ∙ set-raise-other 6 (o .begun) _ RAF refl
+    ∙ status-set 6 s o f bad idles refl (and-false idles)
     ∙ ap (isSet 6) (entered-no (o .taken && not (o .lost)) (raiseIf (o .lost) s OR) f bad e)
-    ∙ set-raise-other 6 (o .lost) s OR refl
+    ∙ raise-keeps 6 (o .lost) s OR refl
     ∙ sym (has-flag 6 s)
 
 module _ (sccr1 : ℕ) (x : Bool) where
@@ -155,16 +137,12 @@ module _ (sccr1 : ℕ) (x : Bool) where
       }
 
 -- A read raises no flag.
-and-first : (a b : Bool) → a && b ≡ true → a ≡ true
-and-first true b e = refl
-and-first false b e = absurd (false≢true e)
-
 set-looked : (k : ℕ) (b : Bool) (s : Status) → isSet k (looked b s) ≡ isSet k s
 set-looked k true s = set-markSeen k s
 set-looked k false s = refl
 
 set-fetched : (k : ℕ) (b : Bool) (s : Status) → isSet k (fetched b s) ≡ true → isSet k s ≡ true
-set-fetched k true s e = and-first (isSet k s) _ (sym (set-fallSeen k s receiveFlags) ∙ e)
+set-fetched k true s e = and-left (isSet k s) _ (sym (set-fallSeen k s receiveFlags) ∙ e)
 set-fetched k false s e = e
 
 pub set-read : (k : ℕ) (scsr scdr : Bool) (s : Status) → isSet k (readStatus scsr scdr s) ≡ true → isSet k s ≡ true

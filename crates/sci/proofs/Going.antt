@@ -24,9 +24,9 @@ use Rattle.sci.specs.declared.framer.Framer.{Framer}
 use Rattle.sci.specs.declared.status.Status.{Status}
 use Rattle.sci.specs.declared.receiver.Receiver.{Receiver}
 use Rattle.sci.specs.declared.receiver.Received.{Received}
+use Rattle.sci.proofs.Membership.{and-left, and-right}
 use Rattle.sci.proofs.Flagged.{isSet, isMarked, set-markSeen, marked-markSeen, set-fallSeen, fallSeen-clear}
 use Rattle.sci.proofs.Heard.{after, At, at}
-use Rattle.sci.proofs.Sending.{and-left, and-right}
 use Rattle.sci.proofs.Samples.{passed-flags, passed-marks, passed-idle, stays-awake, count-up, count-zero, not-reached, zero-not-reached}
 
 -- The line: g ones, then a frame.

@@ -10,19 +10,11 @@ use Rattle.sci.specs.declared.flags.Flags.{Flags}
 use Rattle.sci.specs.declared.status.Status.{Status}
 use Rattle.sci.specs.declared.framer.Frame.{Frame}
 use Rattle.sci.specs.declared.receiver.Outcome.{Outcome}
-use Rattle.sci.proofs.Membership.{member-common, membership}
+use Rattle.sci.proofs.Membership.{and-left, and-right, member-common, membership}
 use Rattle.sci.proofs.Flagged.{isSet, isMarked, set-raise, marked-raise, set-raiseIf, marked-raiseIf, set-fall, marked-fall, set-fallIf, marked-fallIf, set-markSeen, marked-markSeen, set-fallSeen, marked-fallSeen}
 
 abbrev pub Marked : Status → Type 0
 Marked s = contains (s .flags) (common (s .seen) receiveFlags) ≡ true
-
-and-first : (a b : Bool) → a && b ≡ true → a ≡ true
-and-first true b e = refl
-and-first false b e = absurd (false≢true e)
-
-and-second : (a b : Bool) → a && b ≡ true → b ≡ true
-and-second true b e = e
-and-second false b e = absurd (false≢true e)
 
 and-both : (a b : Bool) → a ≡ true → b ≡ true → a && b ≡ true
 and-both a b e f = rw (e, f)
@@ -37,7 +29,7 @@ all s f =
     membership (s .flags) (common (s .seen) receiveFlags) .subset .1
     (λ k e.
     let m : isMarked k s && member k receiveFlags ≡ true = sym (member-common k (s .seen) receiveFlags) ∙ e in
-    f k (and-second (isMarked k s) (member k receiveFlags) m) (and-first (isMarked k s) (member k receiveFlags) m))
+    f k (and-right (isMarked k s) (member k receiveFlags) m) (and-left (isMarked k s) (member k receiveFlags) m))
 
 or-keeps : (m s b : Bool) → (m ≡ true → s ≡ true) → m ≡ true → s || b ≡ true
 or-keeps m true b f e = refl

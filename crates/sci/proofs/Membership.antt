@@ -6,6 +6,7 @@ use native.Mathlib.Omega.{arith}
 use native.Mathlib.Nat.{add-comm, div-div-eq-div-mul, pow-succ', two-pow-succ}
 use native.Mathlib.Numerals.{add-one}
 use lib.Dec.{eqb}
+use lib.Pow.{pow-pos}
 use borrow.Author.Tests.{eq-eqb, ne-eqb, eqb-true}
 use lib.Bits.{bitAnd, bitOr, and-shr, and-mod, and-step, and-le-l, and-high, or-shr, or-mod}
 use Rattle.steps.specs.Bits.{bit}
@@ -80,10 +81,6 @@ one-bit zero p h g = ne-eqb (0 * p) p (omega arith)
 one-bit (suc zero) p h g = eq-eqb (1 * p) p (omega arith)
 one-bit (suc (suc d)) p h g = absurd (omega arith)
 
-pow-pos : (k : ℕ) → 0 < 2 ^ k
-pow-pos zero = omega arith
-pow-pos (suc k) = rw (two-pow-succ k) (omega (arith, pow-pos k))
-
 one-flag : (k a : ℕ) → bitAnd a (2 ^ k) ≡ a / 2 ^ k % 2 * 2 ^ k
 one-flag k a =
     let mask : 2 ^ (1 + k) - 2 ^ k ≡ 2 ^ k = rw (add-comm 1 k, add-one k, two-pow-succ k) (omega arith) in
@@ -110,14 +107,18 @@ bits-same (suc n) a b g h p =
     bits-same n (a / 2) (b / 2) (omega arith) (omega arith) (λ k. rw (← halves a k, ← halves b k) (p (suc k))) in
     omega arith
 
-and-right : (a b : Bool) → (b ≡ true → a ≡ true) → a && b ≡ b
-and-right true b f = refl
-and-right false true f = absurd (false≢true (f refl))
-and-right false false f = refl
+and-absorbs : (a b : Bool) → (b ≡ true → a ≡ true) → a && b ≡ b
+and-absorbs true b f = refl
+and-absorbs false true f = absurd (false≢true (f refl))
+and-absorbs false false f = refl
 
-and-left-true : (a b : Bool) → a && b ≡ true → a ≡ true
-and-left-true true b e = refl
-and-left-true false b e = absurd (false≢true e)
+pub and-left : (a b : Bool) → a && b ≡ true → a ≡ true
+and-left true b e = refl
+and-left false b e = e
+
+pub and-right : (a b : Bool) → a && b ≡ true → b ≡ true
+and-right true b e = e
+and-right false b e = absurd (false≢true e)
 
 -- Each law, of sets.
 module _ (k : ℕ) (a b : Flags) where
@@ -145,12 +146,12 @@ same-members a b p =
 subset-from : (a b : Flags) → contains a b ≡ true → (k : ℕ) → member k b ≡ true → member k a ≡ true
 subset-from a b e k h =
     let same : common a b ≡ b = ap flag (eqb-true _ _ e) in
-    and-left-true (member k a) (member k b) (sym (member-common k a b) ∙ ap (member k) same ∙ h)
+    and-left (member k a) (member k b) (sym (member-common k a b) ∙ ap (member k) same ∙ h)
 
 subset-to : (a b : Flags) → ((k : ℕ) → member k b ≡ true → member k a ≡ true) → contains a b ≡ true
 subset-to a b f =
     let same : common a b ≡ b =
-    same-members (common a b) b (λ k. member-common k a b ∙ and-right (member k a) (member k b) (f k)) in
+    same-members (common a b) b (λ k. member-common k a b ∙ and-absorbs (member k a) (member k b) (f k)) in
     eq-eqb _ _ (ap (λ (x : Flags). x .bits) same)
 
 pub membership : (a b : Flags) → Membership a b

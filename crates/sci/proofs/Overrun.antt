@@ -1,12 +1,12 @@
 -- Demand 3, second half, of the serial half: the automaton of the marks is tied to OR and its mark, step by step.
 use mathlib.Core.Path.{_≡_, refl, sym, subst, _∙_}
-use mathlib.Core.Bool.{Bool, true, false, cond, not, _&&_, _||_, true≢false, false≢true}
+use mathlib.Core.Bool.{Bool, true, false, cond, not, _&&_, _||_, and-false, or-false, true≢false, false≢true}
 use mathlib.Core.List.{List, [], _∷_, _++_}
 use mathlib.Core.Option.{Option, none, some}
 use Prim.Native.Nat.{ℕ, _%_}
 use lib.Dec.{eqb}
 use Rattle.steps.specs.Bits.{merge}
-use Rattle.sci.specs.Flags.{PF, FE, NF, OR, IDLE, RAF, RDRF, receiveFlags, transmitFlags}
+use Rattle.sci.specs.Flags.{PF, FE, NF, OR, RAF, RDRF, receiveFlags, transmitFlags}
 use Rattle.sci.specs.Members.{member}
 use Rattle.sci.specs.Status.{has, raiseIf, fall, markSeen, fallSeen}
 use Rattle.sci.specs.Control.{RE, sccr0Bits}
@@ -22,10 +22,10 @@ use Rattle.sci.specs.declared.framer.Frame.{Frame}
 use Rattle.sci.specs.declared.receiver.Receiver.{Receiver}
 use Rattle.sci.specs.declared.receiver.Outcome.{Outcome}
 use Rattle.sci.specs.declared.serial.Sci.{Sci}
-use Rattle.sci.proofs.Flagged.{isSet, isMarked, has-flag, set-raise, marked-raise, set-raiseIf, marked-raiseIf, marked-fallIf, set-markSeen, marked-markSeen, set-fallSeen, marked-fallSeen}
+use Rattle.sci.proofs.Flagged.{isSet, isMarked, has-flag, set-raise, marked-raise, set-raiseIf, marked-raiseIf, set-markSeen, marked-markSeen, set-fallSeen, marked-fallSeen, raise-keeps}
 use Rattle.sci.proofs.Same.{set-at, marked-at, same-sent, same-loaded, outside-fall}
 use Rattle.sci.proofs.Frames.{by-cond}
-use Rattle.sci.proofs.Alike.{set-raise-other, set-fall-other}
+use Rattle.sci.proofs.Samples.{status-set, status-marked}
 use Rattle.sci.proofs.Reachable.{turned, clock-turned}
 use Rattle.sci.proofs.Automaton.{Okay, overrun-of}
 
@@ -76,12 +76,8 @@ tied-fetch s owed opn d =
 or-raised : (s : Status) (f : Frame) (bad : Bool) → isSet 3 (raised s f bad) ≡ isSet 3 s
 unfolding raised member
 or-raised s f bad =
-    set-raise-other 3 bad _ PF refl ∙ set-raise-other 3 (not (f .stop)) _ FE refl ∙ set-raise-other 3 (f .noise) _ NF refl
-    ∙ set-raise 3 s RDRF ∙ go (isSet 3 s)
-  where
-    go : (a : Bool) → a || false ≡ a
-    go true = refl
-    go false = refl
+    raise-keeps 3 bad _ PF refl ∙ raise-keeps 3 (not (f .stop)) _ FE refl ∙ raise-keeps 3 (f .noise) _ NF refl
+    ∙ set-raise 3 s RDRF ∙ or-false (isSet 3 s)
 
 or-entered : (b : Bool) (s : Status) (f : Frame) (bad : Bool) → isSet 3 (entered b s f bad) ≡ isSet 3 s
 unfolding entered
@@ -100,28 +96,17 @@ mark-entered false s f bad = refl
 
 or-after : (s : Status) (o : Outcome) (f : Frame) (bad idles : Bool) →
     isSet 3 (statusAfter s o f bad idles) ≡ isSet 3 s || (o .lost && true)
-unfolding statusAfter member
+unfolding member
 or-after s o f bad idles =
-    set-raise-other 3 idles _ IDLE refl
-    ∙ set-fall-other 3 (o .abandoned || o .reached) _ RAF refl
-    ∙ set-raise-other 3 (o .begun) _ RAF refl
+    status-set 3 s o f bad idles refl (and-false idles)
     ∙ or-entered (o .taken && not (o .lost)) (raiseIf (o .lost) s OR) f bad
     ∙ set-raiseIf 3 (o .lost) s OR
 
 mark-after : (s : Status) (o : Outcome) (f : Frame) (bad idles : Bool) → isMarked 3 (statusAfter s o f bad idles) ≡ isMarked 3 s
-unfolding statusAfter member
 mark-after s o f bad idles =
-    marked-raiseIf 3 idles _ IDLE
-    ∙ marked-fallIf 3 (o .abandoned || o .reached) _ RAF
-    ∙ go _ (o .abandoned || o .reached)
-    ∙ marked-raiseIf 3 (o .begun) _ RAF
+    status-marked 3 s o f bad idles refl
     ∙ mark-entered (o .taken && not (o .lost)) (raiseIf (o .lost) s OR) f bad
     ∙ marked-raiseIf 3 (o .lost) s OR
-  where
-    go : (a b : Bool) → a && not (b && false) ≡ a
-    go true true = refl
-    go true false = refl
-    go false b = refl
 
 -- A taken frame, lost or not, and its mark.
 okay-taken : (lost taken or seen owed opn : Bool) (w : ℕ) (h : List Mark) → Tied or seen owed opn →

@@ -1,7 +1,7 @@
 -- The first half of demand 3, of the receiver. Ones lead both receivers to the same state of their lines; the one compared with never has
 -- a flag, as no frame ends in it; so they are alike.
 use mathlib.Core.Path.{_≡_, refl, ap, sym, subst, _∙_}
-use mathlib.Core.Bool.{Bool, true, false, not, _&&_, _||_, true≢false}
+use mathlib.Core.Bool.{Bool, true, false, not, _&&_, _||_, and-false, true≢false}
 use mathlib.Core.List.{List, [], _∷_}
 use Prim.Native.Nat.{ℕ, _+_, _≤_}
 use native.Mathlib.Omega.{arith}
@@ -80,10 +80,6 @@ still-searching : (n : ℕ) (three : Bool) → framed n searching three true ≡
 unfolding framed
 still-searching n true = refl
 still-searching n false = refl
-
-and-false : (a : Bool) → a && false ≡ false
-and-false true = refl
-and-false false = refl
 
 calm-since : (reached taken lost since : Bool) → taken ≡ false → since ≡ false → not reached && (taken && not lost || since) ≡ false
 calm-since true taken lost since t e = refl

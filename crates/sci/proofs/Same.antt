@@ -16,7 +16,7 @@ use Rattle.sci.specs.declared.framer.Frame.{Frame}
 use Rattle.sci.specs.declared.transmitter.Transmitter.{Transmitter}
 use Rattle.sci.specs.declared.receiver.Outcome.{Outcome}
 use Rattle.sci.proofs.Membership.{member-common, same-members}
-use Rattle.sci.proofs.Flagged.{isSet, isMarked, has-flag, set-raise, marked-raise, set-raiseIf, marked-raiseIf, set-fall, marked-fall, set-fallIf, marked-fallIf, set-markSeen, marked-markSeen, set-fallSeen, marked-fallSeen}
+use Rattle.sci.proofs.Flagged.{isSet, isMarked, has-flag, set-raise, marked-raise, set-raiseIf, marked-raiseIf, set-fallIf, marked-fallIf, set-markSeen, marked-markSeen, set-fallSeen, marked-fallSeen, raise-keeps, fall-keeps, fall-keeps-marked, fallSeen-keeps, fallSeen-keeps-marked}
 
 -- Flag k is a receive flag.
 abbrev pub Receives : ℕ → Type 0
@@ -146,39 +146,23 @@ outside-at f e k h =
     none : common (flag 0) receiveFlags ≡ flag 0
     none = refl
 
-or-no : (a b : Bool) → a ≡ a || (b && false)
-or-no true b = refl
-or-no false true = refl
-or-no false false = refl
-
-and-no : (a b : Bool) → a ≡ a && not (b && false)
-and-no true true = refl
-and-no true false = refl
-and-no false b = refl
-
 pub outside-raiseIf : (b : Bool) (s : Status) (f : Flags) → Outside f → Same s (raiseIf b s f)
 outside-raiseIf b s f o =
-    same-from s (raiseIf b s f)
-    (λ k h. rw (set-raiseIf k b s f, outside-at f o k h) (or-no (isSet k s) b))
-    (λ k h. sym (marked-raiseIf k b s f))
+    same-from s (raiseIf b s f) (λ k h. sym (raise-keeps k b s f (outside-at f o k h))) (λ k h. sym (marked-raiseIf k b s f))
 
 pub outside-fallIf : (b : Bool) (s : Status) (f : Flags) → Outside f → Same s (fallIf b s f)
 outside-fallIf b s f o =
-    same-from s (fallIf b s f)
-    (λ k h. rw (set-fallIf k b s f, outside-at f o k h) (and-no (isSet k s) b))
-    (λ k h. rw (marked-fallIf k b s f, outside-at f o k h) (and-no (isMarked k s) b))
+    same-from s (fallIf b s f) (λ k h. sym (fall-keeps k b s f (outside-at f o k h)))
+    (λ k h. sym (fall-keeps-marked k b s f (outside-at f o k h)))
 
 pub outside-fall : (s : Status) (f : Flags) → Outside f → Same s (fall s f)
-outside-fall s f o =
-    same-from s (fall s f)
-    (λ k h. rw (set-fall k s f, outside-at f o k h) (and-no (isSet k s) true))
-    (λ k h. rw (marked-fall k s f, outside-at f o k h) (and-no (isMarked k s) true))
+unfolding fallIf
+outside-fall s f o = outside-fallIf true s f o
 
 pub outside-fallSeen : (s : Status) (g : Flags) → Outside g → Same s (fallSeen s g)
 outside-fallSeen s g o =
-    same-from s (fallSeen s g)
-    (λ k h. rw (set-fallSeen k s g, outside-at g o k h) (and-no (isSet k s) (isSet k s && isMarked k s)))
-    (λ k h. rw (marked-fallSeen k s g, outside-at g o k h) (and-no (isMarked k s) (isSet k s && isMarked k s)))
+    same-from s (fallSeen s g) (λ k h. sym (fallSeen-keeps k s g (outside-at g o k h)))
+    (λ k h. sym (fallSeen-keeps-marked k s g (outside-at g o k h)))
 
 -- A sample of the transmitter, and a write of data.
 pub same-sent : (t : Transmitter) (s : Status) (sccr1 : ℕ) → Same s (sent t s sccr1 .status)

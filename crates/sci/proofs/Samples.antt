@@ -20,7 +20,7 @@ use Rattle.sci.specs.declared.receiver.Outcome.{Outcome}
 use Rattle.sci.proofs.Flagged.{isSet, isMarked, set-raise, marked-raiseIf, raise-off, raise-keeps, fall-keeps, fall-keeps-marked}
 
 -- Flag k is neither RAF nor, where the line falls idle, IDLE.
-status-set : (k : ℕ) (s : Status) (o : Outcome) (f : Frame) (bad idles : Bool) → bit k 32 ≡ false → idles && bit k 16 ≡ false →
+pub status-set : (k : ℕ) (s : Status) (o : Outcome) (f : Frame) (bad idles : Bool) → bit k 32 ≡ false → idles && bit k 16 ≡ false →
     isSet k (statusAfter s o f bad idles) ≡ isSet k (entered (o .taken && not (o .lost)) (raiseIf (o .lost) s OR) f bad)
 unfolding statusAfter member
 status-set k s o f bad idles h i =
@@ -29,7 +29,7 @@ status-set k s o f bad idles h i =
     let c : Status = fallIf (o .abandoned || o .reached) b RAF in
     raise-off k idles c IDLE i ∙ fall-keeps k (o .abandoned || o .reached) b RAF h ∙ raise-keeps k (o .begun) a RAF h
 
-status-marked : (k : ℕ) (s : Status) (o : Outcome) (f : Frame) (bad idles : Bool) → bit k 32 ≡ false →
+pub status-marked : (k : ℕ) (s : Status) (o : Outcome) (f : Frame) (bad idles : Bool) → bit k 32 ≡ false →
     isMarked k (statusAfter s o f bad idles) ≡ isMarked k (entered (o .taken && not (o .lost)) (raiseIf (o .lost) s OR) f bad)
 unfolding statusAfter member
 status-marked k s o f bad idles h =

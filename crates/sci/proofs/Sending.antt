@@ -24,6 +24,7 @@ use Rattle.sci.specs.Transmitter.{level, dataSent, frameBits, beginsPrea
 use Rattle.sci.specs.Levels.{lowBits, value, stretched, frameLevels}
 use Rattle.sci.specs.declared.status.Status.{Status}
 use Rattle.sci.specs.declared.transmitter.Transmitter.{Transmitter}
+use Rattle.sci.proofs.Membership.{and-left, and-right}
 
 -- The value of a word's low n bits.
 digit-eqb : (d : ℕ) → d < 2 → digit (eqb d 1) ≡ d
@@ -135,14 +136,6 @@ keeps-sending n w k t s c h l =
     go false e =
         let q : k / 16 ≡ suc k / 16 = omega (arith, h .left, eqb-false ((t .left - 1) % 16) 0 e) in
         h .shift ∙ ap (λ (j : ℕ). frameBits n w / 2 ^ j) q
-
-pub and-left : (a b : Bool) → a && b ≡ true → a ≡ true
-and-left true b e = refl
-and-left false b e = e
-
-pub and-right : (a b : Bool) → a && b ≡ true → b ≡ true
-and-right true b e = e
-and-right false b e = absurd (false≢true e)
 
 -- A frame that begins.
 pub begins-sending : (t : Transmitter) (s : Status) (c : ℕ) → beginsFrame t s c ≡ true →

@@ -18,6 +18,7 @@ use Rattle.sci.specs.declared.framer.Framer.{Framer}
 use Rattle.sci.specs.declared.receiver.Receiver.{Receiver}
 use Rattle.sci.specs.declared.receiver.Outcome.{Outcome}
 use Rattle.sci.specs.declared.receiver.Received.{Received}
+use Rattle.sci.proofs.Membership.{and-left}
 use Rattle.sci.proofs.Marks.{Marked, marked-after, marked-mark-on, marked-fallSeen-on}
 use Rattle.sci.proofs.Frames.{Moved, moved, within}
 
@@ -44,10 +45,6 @@ not-ended : (e t l : Bool) → (e ≡ true → ⊥) → (e && t) && not l ≡ fa
 not-ended true t l f = absurd (f refl)
 not-ended false t l f = refl
 
-and-first : (a b : Bool) → a && b ≡ true → a ≡ true
-and-first true b e = refl
-and-first false b e = absurd (false≢true e)
-
 pub sound-sample : (sccr1 : ℕ) (x : Bool) (p : Received) → Sound (bitsOf (M sccr1)) p →
     Sound (bitsOf (M sccr1)) (act sccr1 (sample x) p)
 unfolding act received receiverAfter outcome
@@ -62,7 +59,7 @@ sound-sample sccr1 x p i =
       fits = m .fits;
       low =
           low-after (o .counted) n (r .idle) (togo n f) (togo n g)
-          (λ c. m .onward (and-first x (not (ends f && ILT sccr1)) c)) (i .low) (within n g (m .fits));
+          (λ c. m .onward (and-left x (not (ends f && ILT sccr1)) c)) (i .low) (within n g (m .fits));
       top = top-after (o .counted) n (r .idle);
       calm =
           calm-after (o .counted) (o .reached) (o .taken && not (o .lost)) (r .since) n (r .idle) refl (i .top) (i .calm)

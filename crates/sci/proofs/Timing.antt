@@ -8,7 +8,7 @@ use native.Mathlib.Omega.{arith}
 use lib.Dec.{eqb, leb}
 use lib.ListN.{replicate, length, getD, length-replicate}
 use borrow.Author.Tests.{ne-eqb, le-leb, lt-leb, leb-false}
-use Rattle.steps.specs.Bits.{bit, merge}
+use Rattle.steps.specs.Bits.{merge}
 use Rattle.sci.specs.Flags.{RAF, TC, TDRE, receiveFlags, transmitFlags}
 use Rattle.sci.specs.Members.{member}
 use Rattle.sci.specs.Status.{has, raiseIf, fallIf, fallSeen}
@@ -27,10 +27,12 @@ use Rattle.sci.specs.declared.receiver.Receiver.{Receiver}
 use Rattle.sci.specs.declared.receiver.Received.{Received}
 use Rattle.sci.specs.declared.transmitter.Transmitter.{Transmitter}
 use Rattle.sci.specs.declared.serial.Sci.{Sci}
-use Rattle.sci.proofs.Flagged.{isSet, isMarked, marked-raiseIf, set-markSeen, raise-off, raise-keeps, fall-keeps, fallSeen-keeps, fallSeen-keeps-marked, fallSeen-clear}
-use Rattle.sci.proofs.Sending.{and-left, Sending, keeps-sending, begins-sending, no-frame}
+use Rattle.sci.proofs.Membership.{and-left}
+use Rattle.sci.proofs.Flagged.{isSet, set-markSeen, raise-off, raise-keeps, fall-keeps, fallSeen-keeps, fallSeen-keeps-marked, fallSeen-clear}
+use Rattle.sci.proofs.Same.{Receives, set-at, marked-at, same-sent}
+use Rattle.sci.proofs.Sending.{Sending, keeps-sending, begins-sending, no-frame}
 use Rattle.sci.proofs.Samples.{transmit-flags}
-use Rattle.sci.proofs.Going.{lineOf, Rested, start, Hearing, clean-clear, Stage, waiting, free, staged, Rdrf, rdrf-same, rdrf-read, Going, going-sample}
+use Rattle.sci.proofs.Going.{lineOf, Rested, start, Hearing, Clean, clean-clear, Stage, waiting, free, staged, Rdrf, rdrf-same, rdrf-read, Going, going-sample}
 use Rattle.sci.proofs.Arriving.{delivered, still-clean, searches-again, ones-again, awake-again}
 use Rattle.sci.proofs.Linked.{same-M, same-PE, same-PT}
 
@@ -121,17 +123,20 @@ sender-access n w k P p s (writeControl v upper lower) h = go (RE (merge (sccr1W
     go true = record { sending = record { left = h .sending .left; shift = h .sending .shift }; rate = h .rate; count = h .count }
     go false = record { sending = record { left = h .sending .left; shift = h .sending .shift }; rate = h .rate; count = h .count }
 
--- The receiver's flags don't change in the transmitter's part of a sample, nor in a write of data.
-sent-keeps : (k : ℕ) (t : Transmitter) (s : Status) (c : ℕ) → bit k 128 ≡ false → bit k 256 ≡ false → isSet k (sent t s c .status) ≡ isSet k s
-unfolding sent member
-sent-keeps k t s c e f =
-    let a : Bool = ends t && has s TDRE in
-    raise-keeps k (beginsFrame t s c) (raiseIf a s TC) TDRE f ∙ raise-keeps k a s TC e
+-- The receiver's flags don't change in the transmitter's part of a sample.
+clean-sent : (t : Transmitter) (s : Status) (c : ℕ) → Clean s → Clean (sent t s c .status)
+unfolding member
+clean-sent t s c h =
+    record { pf = keeps 0 refl ∙ h .pf; fe = keeps 1 refl ∙ h .fe; nf = keeps 2 refl ∙ h .nf; or = keeps 3 refl ∙ h .or }
+  where
+    keeps : (k : ℕ) → Receives k → isSet k (sent t s c .status) ≡ isSet k s
+    keeps k e = sym (set-at s (sent t s c .status) (same-sent t s c) k e)
 
-sent-marks : (k : ℕ) (t : Transmitter) (s : Status) (c : ℕ) → isMarked k (sent t s c .status) ≡ isMarked k s
-unfolding sent
-sent-marks k t s c =
-    marked-raiseIf k (beginsFrame t s c) (raiseIf (ends t && has s TDRE) s TC) TDRE ∙ marked-raiseIf k (ends t && has s TDRE) s TC
+rdrf-sent : (st : Stage) (t : Transmitter) (s : Status) (c : ℕ) → Rdrf st s → Rdrf st (sent t s c .status)
+unfolding member
+rdrf-sent st t s c h =
+    rdrf-same st s (sent t s c .status) (sym (set-at s (sent t s c .status) (same-sent t s c) 6 refl))
+    (sym (marked-at s (sent t s c .status) (same-sent t s c) 6 refl)) h
 
 rested-sent : (st : Stage) (p : Received) (t : Transmitter) (c : ℕ) → Rested st p →
     Rested st (record { receiver = p .receiver; status = sent t (p .status) c .status })
@@ -140,16 +145,8 @@ rested-sent st p t c r =
       searches = r .searches;
       ones = r .ones;
       awake = r .awake;
-      clean =
-          record {
-            pf = sent-keeps 0 t (p .status) c refl refl ∙ r .clean .pf;
-            fe = sent-keeps 1 t (p .status) c refl refl ∙ r .clean .fe;
-            nf = sent-keeps 2 t (p .status) c refl refl ∙ r .clean .nf;
-            or = sent-keeps 3 t (p .status) c refl refl ∙ r .clean .or;
-          };
-      rdrf =
-          rdrf-same st (p .status) (sent t (p .status) c .status) (sent-keeps 6 t (p .status) c refl refl) (sent-marks 6 t (p .status) c)
-          (r .rdrf);
+      clean = clean-sent t (p .status) c (r .clean);
+      rdrf = rdrf-sent st t (p .status) c (r .rdrf);
     }
 
 going-sent : (n g : ℕ) (line : List Bool) (k : ℕ) (st : Stage) (p : Received) (t : Transmitter) (c : ℕ) → Going n g line k st p →
@@ -157,16 +154,8 @@ going-sent : (n g : ℕ) (line : List Bool) (k : ℕ) (st : Stage) (p : Received
 going-sent n g line k st p t c r =
     record {
       hearing = r .hearing;
-      clean =
-          record {
-            pf = sent-keeps 0 t (p .status) c refl refl ∙ r .clean .pf;
-            fe = sent-keeps 1 t (p .status) c refl refl ∙ r .clean .fe;
-            nf = sent-keeps 2 t (p .status) c refl refl ∙ r .clean .nf;
-            or = sent-keeps 3 t (p .status) c refl refl ∙ r .clean .or;
-          };
-      rdrf =
-          rdrf-same st (p .status) (sent t (p .status) c .status) (sent-keeps 6 t (p .status) c refl refl) (sent-marks 6 t (p .status) c)
-          (r .rdrf);
+      clean = clean-sent t (p .status) c (r .clean);
+      rdrf = rdrf-sent st t (p .status) c (r .rdrf);
     }
 
 -- What an access does about RDRF.

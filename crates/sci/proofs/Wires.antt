@@ -24,8 +24,9 @@ use Rattle.sci.specs.Line.{Op}
 use Rattle.sci.specs.Link.{dataBits, Delivered}
 use Rattle.sci.specs.Wire.{Wired, Access, readStatus, readData, writeData, writeControl, accessed, Same, Unchanged, Step, clock, atSender, atReceiver, step, steps, clocksIn, readsOf, hearing, Matched, Rests, Word, begun, ended, period, width, Sends, Received, Arrives, AllSent, AllRead, AllReceived, ArriveInTurn, StopBitRests, FrameDrives}
 use Rattle.sci.specs.declared.serial.Sci.{Sci}
+use Rattle.sci.proofs.Membership.{and-left}
 use Rattle.sci.proofs.Flagged.{isSet, has-flag}
-use Rattle.sci.proofs.Sending.{and-left, shows, low-length, value-low}
+use Rattle.sci.proofs.Sending.{shows, low-length, value-low}
 use Rattle.sci.proofs.Going.{lineOf, Rested, Stage, waiting, free, staged, stages}
 use Rattle.sci.proofs.Arriving.{stop-level}
 use Rattle.sci.proofs.Linked.{same-M, same-PE, same-PT, parity-link, ready-rested, stages-free}
