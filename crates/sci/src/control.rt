@@ -9,73 +9,84 @@ pub fn scbr(sccr0: u16) -> u16
     sccr0 % 8192
 }
 
-// The bits of SCCR1. Ruled out of each: the bit beside it; the bit turned round.
+// Ruled out: the bit beside it; the bit turned round.
 pub fn ilt(sccr1: u16) -> bool
     ensures { λ r. ⌜ r ≡ ILT sccr1 ⌝ }
 {
     sccr1 / 4096 % 2 == 1
 }
 
+// Ruled out: the bit beside it; the bit turned round.
 pub fn pt(sccr1: u16) -> bool
     ensures { λ r. ⌜ r ≡ PT sccr1 ⌝ }
 {
     sccr1 / 2048 % 2 == 1
 }
 
+// Ruled out: the bit beside it; the bit turned round.
 pub fn pe(sccr1: u16) -> bool
     ensures { λ r. ⌜ r ≡ PE sccr1 ⌝ }
 {
     sccr1 / 1024 % 2 == 1
 }
 
+// Ruled out: the bit beside it; the bit turned round.
 pub fn m(sccr1: u16) -> bool
     ensures { λ r. ⌜ r ≡ M sccr1 ⌝ }
 {
     sccr1 / 512 % 2 == 1
 }
 
+// Ruled out: the bit beside it; the bit turned round.
 pub fn wake(sccr1: u16) -> bool
     ensures { λ r. ⌜ r ≡ WAKE sccr1 ⌝ }
 {
     sccr1 / 256 % 2 == 1
 }
 
+// Ruled out: the bit beside it; the bit turned round.
 pub fn tie(sccr1: u16) -> bool
     ensures { λ r. ⌜ r ≡ TIE sccr1 ⌝ }
 {
     sccr1 / 128 % 2 == 1
 }
 
+// Ruled out: the bit beside it; the bit turned round.
 pub fn tcie(sccr1: u16) -> bool
     ensures { λ r. ⌜ r ≡ TCIE sccr1 ⌝ }
 {
     sccr1 / 64 % 2 == 1
 }
 
+// Ruled out: the bit beside it; the bit turned round.
 pub fn rie(sccr1: u16) -> bool
     ensures { λ r. ⌜ r ≡ RIE sccr1 ⌝ }
 {
     sccr1 / 32 % 2 == 1
 }
 
+// Ruled out: the bit beside it; the bit turned round.
 pub fn ilie(sccr1: u16) -> bool
     ensures { λ r. ⌜ r ≡ ILIE sccr1 ⌝ }
 {
     sccr1 / 16 % 2 == 1
 }
 
+// Ruled out: the bit beside it; the bit turned round.
 pub fn te(sccr1: u16) -> bool
     ensures { λ r. ⌜ r ≡ TE sccr1 ⌝ }
 {
     sccr1 / 8 % 2 == 1
 }
 
+// Ruled out: the bit beside it; the bit turned round.
 pub fn re(sccr1: u16) -> bool
     ensures { λ r. ⌜ r ≡ RE sccr1 ⌝ }
 {
     sccr1 / 4 % 2 == 1
 }
 
+// Ruled out: the bit beside it; the bit turned round.
 pub fn rwu(sccr1: u16) -> bool
     ensures { λ r. ⌜ r ≡ RWU sccr1 ⌝ }
 {

@@ -4,6 +4,7 @@ ghost use Rattle.shown.specs.Demand1.{Demand1};
 ghost use Rattle.shown.specs.Marked.{Marked};
 
 // Demand 1: each refusal and privilege exactly when document 01 says, and nothing changed.
+// Ruled out: a hole in the map answered; a refused write that leaves its first half.
 pub fn refusals() -> bool
     ensures { λ r. ⌜ Demand1 ⌝ }
 {
@@ -11,6 +12,7 @@ pub fn refusals() -> bool
 }
 
 // K1 to K12.
+// Ruled out: idle at 159 ones; an entry of 80 clocks.
 pub fn marked_examples() -> bool
     ensures { λ r. ⌜ Marked ⌝ }
 {
