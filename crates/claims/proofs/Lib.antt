@@ -5,3 +5,10 @@ pub mod Shown
 pub mod Touches
 pub mod Lifted
 pub mod Witness
+pub mod Pin
+pub mod Given
+pub mod Joined
+pub mod Reading
+pub mod Sent
+pub mod Stopping
+pub mod Arriving
