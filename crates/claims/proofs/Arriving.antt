@@ -21,7 +21,7 @@ use Rattle.claims.proofs.Pin.{line-driven, line-rests, pin-shows}
 use Rattle.claims.proofs.Joined.{Plain, project, clock-halves, project-steps, project-unchanged, project-rests, project-clocks, rests-plain, Drives, drives-plain}
 use Rattle.claims.proofs.Reading.{project-both}
 use Rattle.claims.proofs.Stopping.{stop-bit}
-use Rattle.claims.proofs.Sent.{two, one, two-match, one-sends}
+use Rattle.claims.proofs.Sent.{two, one, other, two-match, both-sent, both-read}
 
 -- Nothing on the wire changes the sender's rate and settings.
 together : {s r t : Sci} → Registers s r → Registers r t → Registers s t
@@ -167,4 +167,4 @@ arrive-in-turn q u us m d r =
     (half.arrive-in-turn (halves q) (onWire u q) (allOnWire us (ended u q)) m (all-sent (u ∷ us) q d) (all-read us (ended u q) r))
 
 pub demand2 : Demand2
-demand2 = record { arrives = arrives; inTurn = arrive-in-turn; stopBit = stop-bit; pin = pin-shows; met = (two, one, two-match, one-sends) }
+demand2 = record { arrives = arrives; inTurn = arrive-in-turn; stopBit = stop-bit; pin = pin-shows; met = (two, one, other, two-match, both-sent, both-read) }

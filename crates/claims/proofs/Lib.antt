@@ -9,6 +9,6 @@ pub mod Pin
 pub mod Given
 pub mod Joined
 pub mod Reading
-pub mod Sent
 pub mod Stopping
+pub mod Sent
 pub mod Arriving

@@ -175,5 +175,5 @@ pub record Demand2 : Type 0 where
   pub inTurn : ArriveInTurn
   pub stopBit : StopBitRests
   pub pin : PinShows
-  -- What is asked of the two can be met.
-  pub met : (q : Two) × (u : Word) × Matched (halves q) × Sends u q
+  -- What is asked of the two can be met, by two words in turn.
+  pub met : (q : Two) × (u : Word) × (v : Word) × Matched (halves q) × AllSent (u ∷ (v ∷ [])) q × AllRead (v ∷ []) (ended u q)
