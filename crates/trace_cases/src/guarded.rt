@@ -1,4 +1,5 @@
 // Refusal 4: guarded fields while their half is on.
+use crate::show::fresh_write;
 use crate::show::hold;
 use crate::show::read;
 use crate::show::title;
@@ -73,7 +74,7 @@ fn queue() {
 fn serial_halves() {
     title(b"refusal 4 in a long: the serial half");
     let m = Module::reset();
-    write(b"SCBR 5 and TE set, by one long", m, 0x84, 0x08, 0x00050008);
+    fresh_write(b"SCBR 5 and TE set, by one long", 0x84, 0x08, 0x00050008);
     let a = write(b"TE set", m, 0x82, 0x0A, 0x0008);
     write(b"first half, SCBR", a, 0x84, 0x08, 0x00050008);
     write(b"second half, M", a, 0x84, 0x08, 0x00040208);
@@ -88,13 +89,7 @@ fn serial_halves() {
 fn queue_halves() {
     title(b"refusal 4 in a long: the queue half");
     let m = Module::reset();
-    write(
-        b"SPBR 5 and SPE set, by one long",
-        m,
-        0x84,
-        0x18,
-        0x81058404,
-    );
+    fresh_write(b"SPBR 5 and SPE set, by one long", 0x84, 0x18, 0x81058404);
     let a = write(b"MSTR and SPE set", m, 0x84, 0x18, 0x81048404);
     write(b"first half, SPBR", a, 0x84, 0x18, 0x81058404);
     write(b"second half, DSCKL", a, 0x84, 0x18, 0x81048504);

@@ -1,4 +1,6 @@
 // User and supervisor, with SUPV set and clear.
+use crate::show::fresh_read;
+use crate::show::fresh_write;
 use crate::show::read;
 use crate::show::title;
 use crate::show::write;
@@ -7,20 +9,19 @@ use qsm::state::Module;
 // After a reset SUPV is set.
 fn supervisor_only() {
     title(b"SUPV set");
-    let m = Module::reset();
-    read(b"user read of QSMCR", m, 0x02, 0x00);
-    read(b"supervisor read of QSMCR", m, 0x82, 0x00);
-    read(b"user read of QILR, QIVR", m, 0x02, 0x04);
-    read(b"supervisor read of them", m, 0x82, 0x04);
-    read(b"user read of SCSR", m, 0x02, 0x0C);
-    read(b"supervisor read of SCSR", m, 0x82, 0x0C);
-    read(b"user long read of SPCR0, 1", m, 0x04, 0x18);
-    read(b"supervisor read of them", m, 0x84, 0x18);
-    read(b"user read of byte 14", m, 0x01, 0x14);
-    write(b"user write of DDRQS", m, 0x01, 0x17, 0xFF);
-    write(b"supervisor write of DDRQS", m, 0x81, 0x17, 0xFF);
-    write(b"user write of STOP", m, 0x02, 0x00, 0x8080);
-    write(b"user write of LOOPS", m, 0x02, 0x0A, 0x4000);
+    fresh_read(b"user read of QSMCR", 0x02, 0x00);
+    fresh_read(b"supervisor read of QSMCR", 0x82, 0x00);
+    fresh_read(b"user read of QILR, QIVR", 0x02, 0x04);
+    fresh_read(b"supervisor read of them", 0x82, 0x04);
+    fresh_read(b"user read of SCSR", 0x02, 0x0C);
+    fresh_read(b"supervisor read of SCSR", 0x82, 0x0C);
+    fresh_read(b"user long read of SPCR0, 1", 0x04, 0x18);
+    fresh_read(b"supervisor read of them", 0x84, 0x18);
+    fresh_read(b"user read of byte 14", 0x01, 0x14);
+    fresh_write(b"user write of DDRQS", 0x01, 0x17, 0xFF);
+    fresh_write(b"supervisor write of DDRQS", 0x81, 0x17, 0xFF);
+    fresh_write(b"user write of STOP", 0x02, 0x00, 0x8080);
+    fresh_write(b"user write of LOOPS", 0x02, 0x0A, 0x4000);
 }
 
 fn user() {

@@ -1,4 +1,6 @@
 // Refusals 1 and 2.
+use crate::show::fresh_read;
+use crate::show::fresh_write;
 use crate::show::read;
 use crate::show::title;
 use crate::show::write;
@@ -7,81 +9,76 @@ use qsm::state::Module;
 // Width is the low seven bits of the width byte.
 fn widths() {
     title(b"refusal 1: width");
-    let m = Module::reset();
-    read(b"read of width 0", m, 0x80, 0x0C);
-    read(b"read of width 3", m, 0x83, 0x0C);
-    read(b"read of width 10", m, 0x8A, 0x0C);
-    read(b"user read of width 3", m, 0x03, 0x0C);
-    write(b"write of width 0", m, 0x80, 0x0A, 0x00);
-    write(b"write of width 3", m, 0x83, 0x08, 0x00);
-    write(b"write of width 8", m, 0x88, 0x08, 0x00);
-    write(b"user write of width 3", m, 0x03, 0x08, 0x00);
+    fresh_read(b"read of width 0", 0x80, 0x0C);
+    fresh_read(b"read of width 3", 0x83, 0x0C);
+    fresh_read(b"read of width 10", 0x8A, 0x0C);
+    fresh_read(b"user read of width 3", 0x03, 0x0C);
+    fresh_write(b"write of width 0", 0x80, 0x0A, 0x00);
+    fresh_write(b"write of width 3", 0x83, 0x08, 0x00);
+    fresh_write(b"write of width 8", 0x88, 0x08, 0x00);
+    fresh_write(b"user write of width 3", 0x03, 0x08, 0x00);
 }
 
 fn offsets() {
     title(b"refusal 1: odd offset");
-    let m = Module::reset();
-    read(b"word read at 0D", m, 0x82, 0x0D);
-    read(b"long read at 09", m, 0x84, 0x09);
-    write(b"word write at 0B", m, 0x82, 0x0B, 0x0000);
-    write(b"long write at 19", m, 0x84, 0x19, 0x00000000);
-    read(b"byte read at 0D", m, 0x81, 0x0D);
-    read(b"long read at 0A", m, 0x84, 0x0A);
-    read(b"word at 03, no register", m, 0x82, 0x03);
-    read(b"user word read at 0D", m, 0x02, 0x0D);
+    fresh_read(b"word read at 0D", 0x82, 0x0D);
+    fresh_read(b"long read at 09", 0x84, 0x09);
+    fresh_write(b"word write at 0B", 0x82, 0x0B, 0x0000);
+    fresh_write(b"long write at 19", 0x84, 0x19, 0x00000000);
+    fresh_read(b"byte read at 0D", 0x81, 0x0D);
+    fresh_read(b"long read at 0A", 0x84, 0x0A);
+    fresh_read(b"word at 03, no register", 0x82, 0x03);
+    fresh_read(b"user word read at 0D", 0x02, 0x0D);
 }
 
 fn values() {
     title(b"refusal 1: value too big for the width");
-    let m = Module::reset();
-    write(b"byte 100 at 17", m, 0x81, 0x17, 0x0100);
-    write(b"byte 80000000 at 17", m, 0x81, 0x17, 0x80000000);
-    write(b"word 10000 at 16", m, 0x82, 0x16, 0x00010000);
-    write(b"byte 100 at 02, no register", m, 0x81, 0x02, 0x0100);
-    write(b"user byte 100 at 17", m, 0x01, 0x17, 0x0100);
-    write(b"byte FF at 17", m, 0x81, 0x17, 0xFF);
-    write(b"word FFFF at 16", m, 0x82, 0x16, 0xFFFF);
-    write(b"long FFFFFFFF at 100", m, 0x84, 0x0100, 0xFFFFFFFF);
+    fresh_write(b"byte 100 at 17", 0x81, 0x17, 0x0100);
+    fresh_write(b"byte 80000000 at 17", 0x81, 0x17, 0x80000000);
+    fresh_write(b"word 10000 at 16", 0x82, 0x16, 0x00010000);
+    fresh_write(b"byte 100 at 02, no register", 0x81, 0x02, 0x0100);
+    fresh_write(b"user byte 100 at 17", 0x01, 0x17, 0x0100);
+    fresh_write(b"byte FF at 17", 0x81, 0x17, 0xFF);
+    fresh_write(b"word FFFF at 16", 0x82, 0x16, 0xFFFF);
+    fresh_write(b"long FFFFFFFF at 100", 0x84, 0x0100, 0xFFFFFFFF);
 }
 
 fn holes() {
     title(b"refusal 2: not in the map");
-    let m = Module::reset();
-    read(b"word at 02", m, 0x82, 0x02);
-    read(b"byte at 03", m, 0x81, 0x03);
-    read(b"word at 06", m, 0x82, 0x06);
-    read(b"byte at 07", m, 0x81, 0x07);
-    read(b"byte at 10", m, 0x81, 0x10);
-    read(b"word at 12", m, 0x82, 0x12);
-    read(b"byte at 13", m, 0x81, 0x13);
-    read(b"byte at 14, in the map", m, 0x81, 0x14);
-    read(b"byte at 20", m, 0x81, 0x20);
-    read(b"byte at FF", m, 0x81, 0xFF);
-    read(b"byte at 150", m, 0x81, 0x0150);
-    read(b"byte at FFFF", m, 0x81, 0xFFFF);
-    read(b"user word at 02", m, 0x02, 0x02);
-    write(b"word write at 06", m, 0x82, 0x06, 0x0000);
-    write(b"user word write at 06", m, 0x02, 0x06, 0x0000);
+    fresh_read(b"word at 02", 0x82, 0x02);
+    fresh_read(b"byte at 03", 0x81, 0x03);
+    fresh_read(b"word at 06", 0x82, 0x06);
+    fresh_read(b"byte at 07", 0x81, 0x07);
+    fresh_read(b"byte at 10", 0x81, 0x10);
+    fresh_read(b"word at 12", 0x82, 0x12);
+    fresh_read(b"byte at 13", 0x81, 0x13);
+    fresh_read(b"byte at 14, in the map", 0x81, 0x14);
+    fresh_read(b"byte at 20", 0x81, 0x20);
+    fresh_read(b"byte at FF", 0x81, 0xFF);
+    fresh_read(b"byte at 150", 0x81, 0x0150);
+    fresh_read(b"byte at FFFF", 0x81, 0xFFFF);
+    fresh_read(b"user word at 02", 0x02, 0x02);
+    fresh_write(b"word write at 06", 0x82, 0x06, 0x0000);
+    fresh_write(b"user word write at 06", 0x02, 0x06, 0x0000);
 }
 
 fn long_holes() {
     title(b"refusal 2: half of a long");
-    let m = Module::reset();
-    read(b"00, hole second", m, 0x84, 0x00);
-    read(b"04, hole second", m, 0x84, 0x04);
-    read(b"0E, hole second", m, 0x84, 0x0E);
-    read(b"1E, hole second", m, 0x84, 0x1E);
-    read(b"14E, hole second", m, 0x84, 0x014E);
-    read(b"FFFE, hole second", m, 0x84, 0xFFFE);
-    read(b"02, hole first", m, 0x84, 0x02);
-    read(b"06, hole first", m, 0x84, 0x06);
-    read(b"12, hole first", m, 0x84, 0x12);
-    read(b"FE, hole first", m, 0x84, 0xFE);
-    read(b"14, no hole", m, 0x84, 0x14);
-    read(b"14C, no hole", m, 0x84, 0x014C);
-    write(b"write at 00", m, 0x84, 0x00, 0x00000000);
-    write(b"write at 14E", m, 0x84, 0x014E, 0x00000000);
-    write(b"write at FFFE", m, 0x84, 0xFFFE, 0x00000000);
+    fresh_read(b"00, hole second", 0x84, 0x00);
+    fresh_read(b"04, hole second", 0x84, 0x04);
+    fresh_read(b"0E, hole second", 0x84, 0x0E);
+    fresh_read(b"1E, hole second", 0x84, 0x1E);
+    fresh_read(b"14E, hole second", 0x84, 0x014E);
+    fresh_read(b"FFFE, hole second", 0x84, 0xFFFE);
+    fresh_read(b"02, hole first", 0x84, 0x02);
+    fresh_read(b"06, hole first", 0x84, 0x06);
+    fresh_read(b"12, hole first", 0x84, 0x12);
+    fresh_read(b"FE, hole first", 0x84, 0xFE);
+    fresh_read(b"14, no hole", 0x84, 0x14);
+    fresh_read(b"14C, no hole", 0x84, 0x014C);
+    fresh_write(b"write at 00", 0x84, 0x00, 0x00000000);
+    fresh_write(b"write at 14E", 0x84, 0x014E, 0x00000000);
+    fresh_write(b"write at FFFE", 0x84, 0xFFFE, 0x00000000);
 }
 
 // The last byte of each RAM block, and the next.

@@ -1,4 +1,5 @@
 // Reset values, and bits that don't exist.
+use crate::show::fresh_read;
 use crate::show::read;
 use crate::show::reset;
 use crate::show::title;
@@ -7,25 +8,24 @@ use qsm::state::Module;
 
 fn reset_values() {
     title(b"after a reset");
-    let m = Module::reset();
-    read(b"QSMCR", m, 0x82, 0x00);
-    read(b"QILR and QIVR", m, 0x82, 0x04);
-    read(b"SCCR0", m, 0x82, 0x08);
-    read(b"SCCR1", m, 0x82, 0x0A);
-    read(b"SCSR", m, 0x82, 0x0C);
-    read(b"SCDR", m, 0x82, 0x0E);
-    read(b"byte 14 and PORTQS", m, 0x82, 0x14);
-    read(b"PQSPAR and DDRQS", m, 0x82, 0x16);
-    read(b"SPCR0", m, 0x82, 0x18);
-    read(b"SPCR1", m, 0x82, 0x1A);
-    read(b"SPCR2", m, 0x82, 0x1C);
-    read(b"SPCR3 and SPSR", m, 0x82, 0x1E);
-    read(b"first receive words", m, 0x84, 0x0100);
-    read(b"last receive words", m, 0x84, 0x011C);
-    read(b"first transmit words", m, 0x84, 0x0120);
-    read(b"last transmit words", m, 0x84, 0x013C);
-    read(b"first command bytes", m, 0x84, 0x0140);
-    read(b"last command bytes", m, 0x84, 0x014C);
+    fresh_read(b"QSMCR", 0x82, 0x00);
+    fresh_read(b"QILR and QIVR", 0x82, 0x04);
+    fresh_read(b"SCCR0", 0x82, 0x08);
+    fresh_read(b"SCCR1", 0x82, 0x0A);
+    fresh_read(b"SCSR", 0x82, 0x0C);
+    fresh_read(b"SCDR", 0x82, 0x0E);
+    fresh_read(b"byte 14 and PORTQS", 0x82, 0x14);
+    fresh_read(b"PQSPAR and DDRQS", 0x82, 0x16);
+    fresh_read(b"SPCR0", 0x82, 0x18);
+    fresh_read(b"SPCR1", 0x82, 0x1A);
+    fresh_read(b"SPCR2", 0x82, 0x1C);
+    fresh_read(b"SPCR3 and SPSR", 0x82, 0x1E);
+    fresh_read(b"first receive words", 0x84, 0x0100);
+    fresh_read(b"last receive words", 0x84, 0x011C);
+    fresh_read(b"first transmit words", 0x84, 0x0120);
+    fresh_read(b"last transmit words", 0x84, 0x013C);
+    fresh_read(b"first command bytes", 0x84, 0x0140);
+    fresh_read(b"last command bytes", 0x84, 0x014C);
 }
 
 fn own_bits() {

@@ -142,3 +142,12 @@ pub(crate) fn write(label: &[u8], m: Module, width: u8, offset: u16, value: u32)
     ];
     record(label, m, &trace)
 }
+
+// The same on a module fresh from reset, which is then let go.
+pub(crate) fn fresh_read(label: &[u8], width: u8, offset: u16) {
+    read(label, Module::reset(), width, offset);
+}
+
+pub(crate) fn fresh_write(label: &[u8], width: u8, offset: u16, value: u32) {
+    write(label, Module::reset(), width, offset, value);
+}
