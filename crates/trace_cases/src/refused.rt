@@ -1,8 +1,8 @@
 // Refusals 1 and 2.
 use crate::show::fresh_read;
 use crate::show::fresh_write;
-use crate::show::read;
 use crate::show::title;
+use crate::show::try_read;
 use crate::show::write;
 use qsm::state::Module;
 
@@ -87,17 +87,17 @@ fn blocks() {
     let m = Module::reset();
     let a = write(b"byte 5A to 11F", m, 0x81, 0x011F, 0x5A);
     let b = write(b"byte 6B to 120", a, 0x81, 0x0120, 0x6B);
-    read(b"long at 11E", b, 0x84, 0x011E);
+    try_read(b"long at 11E", b, 0x84, 0x011E);
     let c = write(b"byte 7C to 13F", b, 0x81, 0x013F, 0x7C);
     let d = write(b"byte 8D to 140", c, 0x81, 0x0140, 0x8D);
-    read(b"long at 13E", d, 0x84, 0x013E);
+    try_read(b"long at 13E", d, 0x84, 0x013E);
     let e = write(b"byte 9E to 14F", d, 0x81, 0x014F, 0x9E);
     let f = write(b"byte AF to 150", e, 0x81, 0x0150, 0xAF);
-    read(b"word at 14E", f, 0x82, 0x014E);
-    read(b"byte at 14F", f, 0x81, 0x014F);
-    read(b"byte at 150", f, 0x81, 0x0150);
-    read(b"byte at 100", f, 0x81, 0x0100);
-    read(b"byte at FF", f, 0x81, 0xFF);
+    try_read(b"word at 14E", f, 0x82, 0x014E);
+    try_read(b"byte at 14F", f, 0x81, 0x014F);
+    try_read(b"byte at 150", f, 0x81, 0x0150);
+    try_read(b"byte at 100", f, 0x81, 0x0100);
+    try_read(b"byte at FF", f, 0x81, 0xFF);
 }
 
 pub(crate) fn all() {

@@ -143,7 +143,20 @@ pub(crate) fn write(label: &[u8], m: Module, width: u8, offset: u16, value: u32)
     record(label, m, &trace)
 }
 
-// The same on a module fresh from reset, which is then let go.
+// The same, with the module that it leaves let go.
+pub(crate) fn try_hold(label: &[u8], m: Module, pins: u8, rxd: u8, clocks: u16) {
+    hold(label, m, pins, rxd, clocks);
+}
+
+pub(crate) fn try_read(label: &[u8], m: Module, width: u8, offset: u16) {
+    read(label, m, width, offset);
+}
+
+pub(crate) fn try_write(label: &[u8], m: Module, width: u8, offset: u16, value: u32) {
+    write(label, m, width, offset, value);
+}
+
+// The same on a module fresh from reset.
 pub(crate) fn fresh_read(label: &[u8], width: u8, offset: u16) {
     read(label, Module::reset(), width, offset);
 }

@@ -1,8 +1,8 @@
 // Refusals 5 to 7: what stops a trace, and short outputs.
 use crate::show::FILL;
 use crate::show::played;
-use crate::show::read;
 use crate::show::title;
+use crate::show::try_read;
 use qsm::state::Module;
 
 fn unknown() {
@@ -82,7 +82,7 @@ fn no_room() {
         &[0x04, 0x81, 0x00, 0x17, 0x00, 0x00, 0x00, 0xFF],
         &mut [FILL; 9],
     );
-    read(b"DDRQS after it", a, 0x81, 0x17);
+    try_read(b"DDRQS after it", a, 0x81, 0x17);
     let b = played(
         b"DDRQS FF, DDRQS read, 19 bytes",
         m,
@@ -102,7 +102,7 @@ fn no_room() {
         ],
         &mut [FILL; 19],
     );
-    read(b"DDRQS after it", b, 0x81, 0x17);
+    try_read(b"DDRQS after it", b, 0x81, 0x17);
 }
 
 fn whole() {

@@ -1,7 +1,8 @@
 // Refusal 3: unmodelled bits, BITS 1 to 7, SPE with MSTR clear.
 use crate::show::fresh_write;
-use crate::show::read;
 use crate::show::title;
+use crate::show::try_read;
+use crate::show::try_write;
 use crate::show::write;
 use qsm::state::Module;
 
@@ -65,7 +66,7 @@ fn second_half() {
     fresh_write(b"BITS 7", 0x84, 0x16, 0x00009D04);
     fresh_write(b"LOOPQ", 0x84, 0x1C, 0x00000400);
     let a = write(b"LOOPS, SCCR0 changed first", m, 0x84, 0x08, 0x00054000);
-    read(b"SCCR0 and SCCR1 after it", a, 0x84, 0x08);
+    try_read(b"SCCR0 and SCCR1 after it", a, 0x84, 0x08);
 }
 
 // SPE in the second half is tested against the MSTR that the first would leave.
@@ -75,9 +76,9 @@ fn master_and_queue_on() {
     fresh_write(b"MSTR clear, kept clear", 0x84, 0x18, 0x01048404);
     fresh_write(b"MSTR clear, set first", 0x84, 0x18, 0x81048404);
     let a = write(b"MSTR set", m, 0x82, 0x18, 0x8104);
-    write(b"MSTR set, kept set", a, 0x84, 0x18, 0x81048404);
+    try_write(b"MSTR set, kept set", a, 0x84, 0x18, 0x81048404);
     let b = write(b"MSTR set, cleared first", a, 0x84, 0x18, 0x01048404);
-    read(b"SPCR0 and SPCR1 after it", b, 0x84, 0x18);
+    try_read(b"SPCR0 and SPCR1 after it", b, 0x84, 0x18);
 }
 
 pub(crate) fn all() {
