@@ -32,6 +32,7 @@ pub enum Event {
 }
 
 // The refusal's number or 0, the value read, the driven levels and which pins are driven, the request's level and its vector.
+#[repr(C)]
 pub struct Answer {
     pub refusal: u8,
     pub value: u32,

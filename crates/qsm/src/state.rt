@@ -4,6 +4,7 @@ ghost use Rattle.qsm.specs.State.{resetModule};
 use qspi::Qspi;
 use sci::serial::Sci;
 
+#[repr(C)]
 pub struct Module {
     pub sci: Sci,
     pub qspi: Qspi,

@@ -9,6 +9,7 @@ pub mod registers;
 
 // Registers and status, the RAM, and where the queue stands. The order within these parts matters to the speed alone: no fields that
 // a function leaves as they are make a run of 2, 4 or 8 bytes, which the compiler would take for one number.
+#[repr(C)]
 pub struct Qspi {
     pub spcr1: u16,
     pub spcr0: u16,

@@ -2,6 +2,7 @@
 ghost use mathlib.Core.Path.{_≡_};
 ghost use Rattle.sci.specs.Flags.{insert, contains, without, common};
 
+#[repr(C)]
 pub struct Flags {
     pub bits: u16,
 }

@@ -7,6 +7,7 @@ use crate::bits::disagree;
 use crate::bits::vote;
 use crate::control::bits_of;
 
+#[repr(C)]
 pub struct Framer {
     // A frame is being received; its start bit; else the data bits that are left, this one included, and none in the stop bit.
     pub framing: bool,

@@ -12,6 +12,7 @@ use crate::framer::Frame;
 use crate::framer::Framer;
 use crate::status::Status;
 
+#[repr(C)]
 pub struct Receiver {
     pub framer: Framer,
     // SCDR as it is read, and whether a frame has entered it since the idle count last got to its limit.

@@ -12,6 +12,7 @@ use crate::receiver::Receiver;
 use crate::status::Status;
 use crate::transmitter::Transmitter;
 
+#[repr(C)]
 pub struct Sci {
     // SCCR0, and SCCR1 without RWU, which the receiver keeps.
     pub sccr0: u16,

@@ -3,6 +3,7 @@ ghost use mathlib.Core.Path.{_≡_};
 ghost use Rattle.sci.specs.Status.{has, raise, raiseIf, fall, fallIf, markSeen, fallSeen};
 use crate::flags::Flags;
 
+#[repr(C)]
 pub struct Status {
     pub flags: Flags,
     pub seen: Flags,

@@ -8,6 +8,7 @@ use crate::control;
 use crate::flags::Flags;
 use crate::status::Status;
 
+#[repr(C)]
 pub struct Transmitter {
     // A preamble is queued.
     pub preamble: bool,
