@@ -1,0 +1,4 @@
+pub mod Params
+pub mod Block
+pub mod Events
+pub mod Entry

@@ -1,0 +1,68 @@
+// A module that a host keeps and changes in place: each entry copies the state, calls the step by value and stores the result.
+ghost use mathlib.Core.Path.{_≡_};
+ghost use Rattle.qsm.specs.Event.{answered, resets};
+ghost use Rattle.qsm.specs.declared.event.Event.the-variants.{Reset, Hold};
+ghost use Rattle.host.specs.Host.{Applied, readEvent, writeEvent};
+use qsm::event::Answer;
+use qsm::event::Event;
+use qsm::event::Stepped;
+use qsm::state::Module;
+
+// An event on the module.
+// Ruled out: the module kept as it was; the answer of the event before.
+pub fn apply(m: &mut Module, e: Event) -> Answer
+    ensures { λ r. ⌜ Applied (now (m .entry)) e (now (m .exit)) r ⌝ }
+{
+    let s = *m;
+    let r = qsm::event::step(s, e);
+    *m = r.state;
+    r.answer
+}
+
+// A reset by value, of whatever module.
+// Ruled out: a module that keeps a register; one that keeps a half.
+pub fn restart(_m: Module) -> Stepped
+    ensures { λ r. ⌜ r ≡ answered resets ⌝ }
+{
+    qsm::event::reset()
+}
+
+// Ruled out: a module that keeps a register; no answer to a reset.
+pub fn reset(m: &mut Module) -> Answer
+    ensures { λ r. ⌜ Applied (now (m .entry)) Reset (now (m .exit)) r ⌝ }
+{
+    let s = *m;
+    let r = restart(s);
+    *m = r.state;
+    r.answer
+}
+
+// Ruled out: the clocks of the hold before; the module from before the hold's clocks.
+pub fn hold(m: &mut Module, pins: u8, rxd: bool, clocks: u16) -> Answer
+    ensures { λ r. ⌜ Applied (now (m .entry)) (Hold pins rxd clocks) (now (m .exit)) r ⌝ }
+{
+    let s = *m;
+    let r = qsm::event::hold(s, pins, rxd, clocks);
+    *m = r.state;
+    r.answer
+}
+
+// Ruled out: a read that leaves a flag which reading clears; one that is always a supervisor's.
+pub fn read(m: &mut Module, supervisor: bool, width: u8, offset: u16) -> Answer
+    ensures { λ r. ⌜ Applied (now (m .entry)) (readEvent supervisor width offset) (now (m .exit)) r ⌝ }
+{
+    let s = *m;
+    let r = qsm::event::read(s, supervisor, width, offset);
+    *m = r.state;
+    r.answer
+}
+
+// Ruled out: a write that is answered and not stored; a refused write that leaves its first half.
+pub fn write(m: &mut Module, supervisor: bool, width: u8, offset: u16, value: u32) -> Answer
+    ensures { λ r. ⌜ Applied (now (m .entry)) (writeEvent supervisor width offset value) (now (m .exit)) r ⌝ }
+{
+    let s = *m;
+    let r = qsm::event::write(s, supervisor, width, offset, value);
+    *m = r.state;
+    r.answer
+}

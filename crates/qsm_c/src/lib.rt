@@ -1,0 +1,95 @@
+// The C boundary: a module behind a pointer, which the host keeps, and the playing of a trace. `include/qsm.h` declares it.
+ghost use mathlib.Core.Path.{_≡_};
+ghost use lib.ListN.{length};
+ghost use Rattle.qsm.specs.State.{resetModule};
+ghost use Rattle.qsm.specs.declared.event.Event.the-variants.{Reset, Hold};
+ghost use Rattle.host.specs.Host.{Applied, readEvent, writeEvent};
+ghost use Rattle.trace.specs.Play.{play};
+ghost use Rattle.qsm_c.specs.Play.{Plays};
+use qsm::event::Answer;
+use qsm::state::Module;
+
+// The module after a trace, the bytes read and written, and the refusal that stopped it, or 0.
+#[repr(C)]
+pub struct Played {
+    pub state: Module,
+    pub read: usize,
+    pub written: usize,
+    pub stop: u8,
+}
+
+// A module after a reset.
+// Ruled out: SUPV clear; QIVR 00.
+#[no_mangle]
+pub extern "C" fn qsm_new() -> Module
+    ensures { λ r. ⌜ r ≡ resetModule ⌝ }
+{
+    Module::reset()
+}
+
+// Ruled out: a module that keeps a register; no answer to a reset.
+#[no_mangle]
+pub extern "C" fn qsm_reset(m: &mut Module) -> Answer
+    ensures { λ r. ⌜ Applied (now (m .entry)) Reset (now (m .exit)) r ⌝ }
+{
+    let s = *m;
+    let r = host::restart(s);
+    *m = r.state;
+    r.answer
+}
+
+// Ruled out: the levels of the hold before; only the first clock played.
+#[no_mangle]
+pub extern "C" fn qsm_hold(m: &mut Module, pins: u8, rxd: bool, clocks: u16) -> Answer
+    ensures { λ r. ⌜ Applied (now (m .entry)) (Hold pins rxd clocks) (now (m .exit)) r ⌝ }
+{
+    let s = *m;
+    let r = qsm::event::hold(s, pins, rxd, clocks);
+    *m = r.state;
+    r.answer
+}
+
+// Ruled out: every read answered 0; a blocked user's read with a side effect.
+#[no_mangle]
+pub extern "C" fn qsm_read(m: &mut Module, supervisor: bool, width: u8, offset: u16) -> Answer
+    ensures { λ r. ⌜ Applied (now (m .entry)) (readEvent supervisor width offset) (now (m .exit)) r ⌝ }
+{
+    let s = *m;
+    let r = qsm::event::read(s, supervisor, width, offset);
+    *m = r.state;
+    r.answer
+}
+
+// Ruled out: every write refused; a write that is answered and not stored.
+#[no_mangle]
+pub extern "C" fn qsm_write(
+    m: &mut Module,
+    supervisor: bool,
+    width: u8,
+    offset: u16,
+    value: u32,
+) -> Answer
+    ensures { λ r. ⌜ Applied (now (m .entry)) (writeEvent supervisor width offset value) (now (m .exit)) r ⌝ }
+{
+    let s = *m;
+    let r = qsm::event::write(s, supervisor, width, offset, value);
+    *m = r.state;
+    r.answer
+}
+
+// A trace, played on m into a log.
+// Ruled out: bytes read that count the record refused; a log changed past its answers.
+#[no_mangle]
+pub extern "C" fn qsm_play(m: Module, trace: &[u8], log: &mut [u8]) -> Played
+    ensures { λ r. ⌜ Plays (play m (now (trace .entry)) (length (now (log .entry)))) (now (log .entry)) r (now (log .exit)) ⌝ }
+{
+    let p = trace::play(m, trace, log);
+    let state = p.state;
+    let stop = p.stop;
+    Played {
+        state,
+        read: p.read,
+        written: p.written,
+        stop: trace::stop_number(stop),
+    }
+}
