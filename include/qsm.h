@@ -1,0 +1,235 @@
+/*
+ * Motorola's queued serial module (QSM), as a struct that a host keeps and changes by six functions.
+ *
+ * For C11 and C++11 on x86-64. The archive is made by `rt staticlib qsm_c`; link target/staticlib/libqsm_c.a.
+ *
+ *     struct qsm card = qsm_new();
+ *     qsm_write(&card, true, 2, QSM_SCCR1, QSM_TE | QSM_RE);
+ *     struct qsm_answer a = qsm_hold(&card, 0xFF, true, 1000);
+ *
+ * Every call is answered, whatever the numbers in it: nothing else is asked of the caller than this.
+ *   - A `struct qsm *` points to one valid module, which nobody else uses during the call. Valid is what qsm_new gave, a copy of it
+ *     (assignment or memcpy: a saved state is a copy), and what these functions made of it. Never null.
+ *   - `trace` points to `length` bytes, `log` to `room` bytes, and the two do not overlap. Never null, also where there are 0 bytes.
+ *   - Every bool, in the calls and in the struct, is 0 or 1.
+ * There are no hidden variables: different modules may be used by different threads at once.
+ */
+#ifndef QSM_H
+#define QSM_H
+
+#include <stdbool.h>
+#include <stddef.h>
+#include <stdint.h>
+
+#ifdef __cplusplus
+extern "C" {
+#endif
+
+/* Why an access was refused, or why a trace stopped. */
+enum qsm_refusal {
+    QSM_ANSWERED = 0,     /* not refused, or the trace's end */
+    QSM_MISSHAPEN = 1,    /* width not 1, 2 or 4; odd offset with 2 or 4; written value too big for the width */
+    QSM_UNMAPPED = 2,     /* a byte touched is not in the map */
+    QSM_UNMODELLED = 3,   /* a write would set an unmodelled bit, BITS 1 to 7, or SPE with MSTR clear */
+    QSM_GUARDED = 4,      /* a write would change a guarded field while its half is on */
+    QSM_UNKNOWN_KIND = 5, /* trace: a record of unknown kind */
+    QSM_CUT_RECORD = 6,   /* trace: a record cut by the end */
+    QSM_NO_ROOM = 7       /* trace: fewer than 10 bytes left of the log */
+};
+
+/* Offsets of the registers from the module's base. Words are big-endian. */
+enum qsm_offset {
+    QSM_QSMCR = 0x00, QSM_QILR = 0x04, QSM_QIVR = 0x05, /* QILR and QIVR are bytes */
+    QSM_SCCR0 = 0x08, QSM_SCCR1 = 0x0A, QSM_SCSR = 0x0C, QSM_SCDR = 0x0E,
+    QSM_PORTQS = 0x15, QSM_PQSPAR = 0x16, QSM_DDRQS = 0x17, /* bytes */
+    QSM_SPCR0 = 0x18, QSM_SPCR1 = 0x1A, QSM_SPCR2 = 0x1C, QSM_SPCR3 = 0x1E, QSM_SPSR = 0x1F, /* the last two are bytes */
+    QSM_RECEIVE = 0x100, QSM_TRANSMIT = 0x120, QSM_COMMANDS = 0x140 /* 16 words, 16 words, 16 bytes */
+};
+
+/* SCCR1: transmitter and receiver on. */
+enum qsm_sccr1 { QSM_TE = 0x0008, QSM_RE = 0x0004 };
+
+/* SCSR. A status read marks the flags it shows as seen; a data read or write then makes the seen ones fall. */
+enum qsm_scsr {
+    QSM_TDRE = 0x0100, /* transmit data register empty */
+    QSM_TC = 0x0080,   /* transmission complete */
+    QSM_RDRF = 0x0040, /* receive data register full */
+    QSM_RAF = 0x0020,  /* receiver active */
+    QSM_IDLE = 0x0010, /* idle line */
+    QSM_OR = 0x0008,   /* overrun: a character, or more than one, was lost after the one in SCDR */
+    QSM_NF = 0x0004,   /* noise */
+    QSM_FE = 0x0002,   /* framing error */
+    QSM_PF = 0x0001    /* parity error */
+};
+
+/* Pins, as bits of `pins`, `levels` and `mask`. */
+enum qsm_pin {
+    QSM_MISO = 0x01, QSM_MOSI = 0x02, QSM_SCK = 0x04, QSM_PCS0 = 0x08, QSM_PCS1 = 0x10, QSM_PCS2 = 0x20, QSM_PCS3 = 0x40, QSM_TXD = 0x80
+};
+
+/* The answer to a call: what it gives, and the module's pins and request after it. */
+struct qsm_answer {
+    uint8_t refusal; /* QSM_MISSHAPEN to QSM_GUARDED, and the module is as before; else QSM_ANSWERED */
+    uint32_t value;  /* what a read gives; else 0 */
+    uint8_t levels;  /* levels of the driven pins; 0 for the others */
+    uint8_t mask;    /* which pins the module drives */
+    uint8_t level;   /* level of the interrupt request, 1 to 7; 0 where there is none */
+    uint8_t vector;  /* its vector; 0 where there is none */
+};
+
+/* The module's state, part by part. A host may look inside and need not. */
+
+struct qsm_flags {
+    uint16_t bits; /* as in SCSR */
+};
+
+struct qsm_status {
+    struct qsm_flags flags;
+    struct qsm_flags seen; /* those that a status read has shown */
+};
+
+struct qsm_framer {
+    bool framing;  /* a frame is being received */
+    bool starting; /* its start bit */
+    uint8_t left;  /* data bits left, this one included; 0 in the stop bit */
+    uint8_t rt;    /* last RT taken of this bit */
+    bool first, second; /* samples of the vote */
+    bool noise;
+    uint16_t shift;
+};
+
+struct qsm_receiver {
+    struct qsm_framer framer;
+    uint16_t scdr; /* SCDR as it is read */
+    bool since;    /* a frame has entered SCDR since the idle count was last full */
+    bool last1, last2, last3; /* the last samples, latest first */
+    uint8_t idle; /* samples of one in a row */
+    bool asleep;  /* RWU */
+};
+
+struct qsm_transmitter {
+    bool preamble;  /* one is queued */
+    uint8_t left;   /* samples left of what runs */
+    uint16_t shift; /* its bits */
+    uint16_t scdr;  /* SCDR as it is written */
+};
+
+struct qsm_sci {
+    uint16_t sccr0;
+    uint16_t sccr1;     /* without RWU */
+    uint16_t prescaler; /* clocks since the last sample */
+    struct qsm_status status;
+    struct qsm_receiver receiver;
+    struct qsm_transmitter transmitter;
+};
+
+struct qsm_qspi {
+    uint16_t spcr1, spcr0, spcr2;
+    uint8_t spcr3;
+    bool spif_seen, modf_seen, halta_seen;
+    bool halta, spif, modf;
+    uint8_t cptqp;
+    uint16_t receive[16];
+    uint16_t transmit[16];
+    uint8_t commands[16];
+    uint16_t working; /* working copy of SPCR2 */
+    uint8_t pointer;
+    bool pending;  /* NEWQP was written since the last entry began */
+    uint8_t edges; /* of the entry, fallen */
+    uint16_t left; /* clocks to the next edge, or to the end of the delay */
+    bool playing, halted, delaying;
+    bool mosi;
+    uint16_t collected; /* bits read on MISO */
+    uint16_t shift;     /* transmit word and command of the entry */
+    uint8_t command;
+    bool selecting; /* the chip selects show the command's value */
+};
+
+struct qsm {
+    struct qsm_sci sci;
+    struct qsm_qspi qspi;
+    uint16_t qsmcr;
+    uint8_t qilr, qivr, portqs, pqspar, ddrqs;
+    uint8_t inputs; /* pin levels of the last hold */
+};
+
+struct qsm_played {
+    struct qsm state; /* the module after the records answered */
+    size_t read;      /* bytes of those records */
+    size_t written;   /* bytes of their answers */
+    uint8_t stop;     /* QSM_UNKNOWN_KIND to QSM_NO_ROOM; QSM_ANSWERED at the end of the trace */
+};
+
+/* A module fresh from reset. */
+struct qsm qsm_new(void);
+
+/* Reset. */
+struct qsm_answer qsm_reset(struct qsm *m);
+
+/*
+ * Time passes: RXD has its level and the input pins have theirs for 0 to 65,535 system clocks. `pins` counts only for pins that are inputs,
+ * and stays, for reads of PORTQS, until the next hold or reset.
+ */
+struct qsm_answer qsm_hold(struct qsm *m, uint8_t pins, bool rxd, uint16_t clocks);
+
+/*
+ * A bus access of 1, 2 or 4 bytes, as supervisor or as user, which takes no clock. A byte or word is the low end of the value. A long is
+ * two words in address order; where one half of a write is refused, neither acts. A user's access to QSMCR, QILR or QIVR, or to anything
+ * while SUPV is set (as after a reset), reads 0 or writes nothing; that is no refusal.
+ */
+struct qsm_answer qsm_read(struct qsm *m, bool supervisor, uint8_t width, uint16_t offset);
+struct qsm_answer qsm_write(struct qsm *m, bool supervisor, uint8_t width, uint16_t offset, uint32_t value);
+
+/*
+ * Plays the records of a trace from the state `m` on and writes their answers, 10 bytes each, to the front of the log. It stops before a
+ * record that it can't answer: what was answered before stands, and the log's bytes past the answers are unchanged.
+ */
+struct qsm_played qsm_play(struct qsm m, const uint8_t *trace, size_t length, uint8_t *log, size_t room);
+
+#ifdef __cplusplus
+}
+#endif
+
+/* The layout that the archive was built with: alignment and size of each struct; place and size of each field. */
+#ifdef __cplusplus
+#define QSM_IS(test) static_assert(test, #test)
+#define QSM_STRUCT(type, align, size) QSM_IS(alignof(struct type) == align && sizeof(struct type) == size)
+#else
+#define QSM_IS(test) _Static_assert(test, #test)
+#define QSM_STRUCT(type, align, size) QSM_IS(_Alignof(struct type) == align && sizeof(struct type) == size)
+#endif
+#define QSM_AT(type, field, place, size) QSM_IS(offsetof(struct type, field) == place && sizeof(((struct type *)0)->field) == size)
+QSM_STRUCT(qsm_answer, 4, 12); QSM_AT(qsm_answer, refusal, 0, 1); QSM_AT(qsm_answer, value, 4, 4);
+QSM_AT(qsm_answer, levels, 8, 1); QSM_AT(qsm_answer, mask, 9, 1); QSM_AT(qsm_answer, level, 10, 1);
+QSM_AT(qsm_answer, vector, 11, 1);
+QSM_STRUCT(qsm_flags, 2, 2); QSM_AT(qsm_flags, bits, 0, 2);
+QSM_STRUCT(qsm_status, 2, 4); QSM_AT(qsm_status, flags, 0, 2); QSM_AT(qsm_status, seen, 2, 2);
+QSM_STRUCT(qsm_framer, 2, 10); QSM_AT(qsm_framer, framing, 0, 1); QSM_AT(qsm_framer, starting, 1, 1);
+QSM_AT(qsm_framer, left, 2, 1); QSM_AT(qsm_framer, rt, 3, 1); QSM_AT(qsm_framer, first, 4, 1); QSM_AT(qsm_framer, second, 5, 1);
+QSM_AT(qsm_framer, noise, 6, 1); QSM_AT(qsm_framer, shift, 8, 2);
+QSM_STRUCT(qsm_receiver, 2, 18); QSM_AT(qsm_receiver, framer, 0, 10); QSM_AT(qsm_receiver, scdr, 10, 2);
+QSM_AT(qsm_receiver, since, 12, 1); QSM_AT(qsm_receiver, last1, 13, 1); QSM_AT(qsm_receiver, last2, 14, 1);
+QSM_AT(qsm_receiver, last3, 15, 1); QSM_AT(qsm_receiver, idle, 16, 1); QSM_AT(qsm_receiver, asleep, 17, 1);
+QSM_STRUCT(qsm_transmitter, 2, 6); QSM_AT(qsm_transmitter, preamble, 0, 1); QSM_AT(qsm_transmitter, left, 1, 1);
+QSM_AT(qsm_transmitter, shift, 2, 2); QSM_AT(qsm_transmitter, scdr, 4, 2);
+QSM_STRUCT(qsm_sci, 2, 34); QSM_AT(qsm_sci, sccr0, 0, 2); QSM_AT(qsm_sci, sccr1, 2, 2); QSM_AT(qsm_sci, prescaler, 4, 2);
+QSM_AT(qsm_sci, status, 6, 4); QSM_AT(qsm_sci, receiver, 10, 18); QSM_AT(qsm_sci, transmitter, 28, 6);
+QSM_STRUCT(qsm_qspi, 2, 112); QSM_AT(qsm_qspi, spcr1, 0, 2); QSM_AT(qsm_qspi, spcr0, 2, 2); QSM_AT(qsm_qspi, spcr2, 4, 2);
+QSM_AT(qsm_qspi, spcr3, 6, 1); QSM_AT(qsm_qspi, spif_seen, 7, 1); QSM_AT(qsm_qspi, modf_seen, 8, 1);
+QSM_AT(qsm_qspi, halta_seen, 9, 1); QSM_AT(qsm_qspi, halta, 10, 1); QSM_AT(qsm_qspi, spif, 11, 1);
+QSM_AT(qsm_qspi, modf, 12, 1); QSM_AT(qsm_qspi, cptqp, 13, 1); QSM_AT(qsm_qspi, receive, 14, 32);
+QSM_AT(qsm_qspi, transmit, 46, 32); QSM_AT(qsm_qspi, commands, 78, 16); QSM_AT(qsm_qspi, working, 94, 2);
+QSM_AT(qsm_qspi, pointer, 96, 1); QSM_AT(qsm_qspi, pending, 97, 1); QSM_AT(qsm_qspi, edges, 98, 1);
+QSM_AT(qsm_qspi, left, 100, 2); QSM_AT(qsm_qspi, playing, 102, 1); QSM_AT(qsm_qspi, halted, 103, 1);
+QSM_AT(qsm_qspi, delaying, 104, 1); QSM_AT(qsm_qspi, mosi, 105, 1); QSM_AT(qsm_qspi, collected, 106, 2);
+QSM_AT(qsm_qspi, shift, 108, 2); QSM_AT(qsm_qspi, command, 110, 1); QSM_AT(qsm_qspi, selecting, 111, 1);
+QSM_STRUCT(qsm, 2, 154); QSM_AT(qsm, sci, 0, 34); QSM_AT(qsm, qspi, 34, 112); QSM_AT(qsm, qsmcr, 146, 2);
+QSM_AT(qsm, qilr, 148, 1); QSM_AT(qsm, qivr, 149, 1); QSM_AT(qsm, portqs, 150, 1); QSM_AT(qsm, pqspar, 151, 1);
+QSM_AT(qsm, ddrqs, 152, 1); QSM_AT(qsm, inputs, 153, 1);
+QSM_STRUCT(qsm_played, 8, 184); QSM_AT(qsm_played, state, 0, 154); QSM_AT(qsm_played, read, 160, 8);
+QSM_AT(qsm_played, written, 168, 8); QSM_AT(qsm_played, stop, 176, 1);
+#undef QSM_AT
+#undef QSM_STRUCT
+#undef QSM_IS
+
+#endif
