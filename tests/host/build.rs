@@ -1,0 +1,15 @@
+//! Links the archive that `rt staticlib qsm_c` makes.
+
+use std::env;
+use std::path::Path;
+
+fn main() {
+    let here = env::var("CARGO_MANIFEST_DIR").expect("cargo sets it");
+    let folder = Path::new(&here).join("../../target/staticlib");
+    println!("cargo:rustc-link-search=native={}", folder.display());
+    println!("cargo:rustc-link-lib=static=qsm_c");
+    println!(
+        "cargo:rerun-if-changed={}",
+        folder.join("libqsm_c.a").display()
+    );
+}

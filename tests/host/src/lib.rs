@@ -1,0 +1,4 @@
+//! The module of `include/qsm.h` for a host in Rust.
+
+mod layout;
+pub mod qsm;

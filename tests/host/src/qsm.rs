@@ -1,0 +1,185 @@
+//! The structs of `include/qsm.h`, its functions, and safe calls of them.
+
+/// A struct that has the layout of C and can be copied and compared.
+macro_rules! c_struct {
+    ($name:ident { $($field:ident: $type:ty),* $(,)? }) => {
+        #[repr(C)]
+        #[derive(Clone, Copy, Debug, PartialEq, Eq)]
+        pub struct $name {
+            $(pub $field: $type,)*
+        }
+    };
+}
+
+c_struct!(Answer {
+    refusal: u8,
+    value: u32,
+    levels: u8,
+    mask: u8,
+    level: u8,
+    vector: u8,
+});
+
+c_struct!(Flags { bits: u16 });
+
+c_struct!(Status {
+    flags: Flags,
+    seen: Flags,
+});
+
+c_struct!(Framer {
+    framing: bool,
+    starting: bool,
+    left: u8,
+    rt: u8,
+    first: bool,
+    second: bool,
+    noise: bool,
+    shift: u16,
+});
+
+c_struct!(Receiver {
+    framer: Framer,
+    scdr: u16,
+    since: bool,
+    last1: bool,
+    last2: bool,
+    last3: bool,
+    idle: u8,
+    asleep: bool,
+});
+
+c_struct!(Transmitter {
+    preamble: bool,
+    left: u8,
+    shift: u16,
+    scdr: u16,
+});
+
+c_struct!(Sci {
+    sccr0: u16,
+    sccr1: u16,
+    prescaler: u16,
+    status: Status,
+    receiver: Receiver,
+    transmitter: Transmitter,
+});
+
+c_struct!(Qspi {
+    spcr1: u16,
+    spcr0: u16,
+    spcr2: u16,
+    spcr3: u8,
+    spif_seen: bool,
+    modf_seen: bool,
+    halta_seen: bool,
+    halta: bool,
+    spif: bool,
+    modf: bool,
+    cptqp: u8,
+    receive: [u16; 16],
+    transmit: [u16; 16],
+    commands: [u8; 16],
+    working: u16,
+    pointer: u8,
+    pending: bool,
+    edges: u8,
+    left: u16,
+    playing: bool,
+    halted: bool,
+    delaying: bool,
+    mosi: bool,
+    collected: u16,
+    shift: u16,
+    command: u8,
+    selecting: bool,
+});
+
+c_struct!(Module {
+    sci: Sci,
+    qspi: Qspi,
+    qsmcr: u16,
+    qilr: u8,
+    qivr: u8,
+    portqs: u8,
+    pqspar: u8,
+    ddrqs: u8,
+    inputs: u8,
+});
+
+c_struct!(Played {
+    state: Module,
+    read: usize,
+    written: usize,
+    stop: u8,
+});
+
+extern "C" {
+    fn qsm_new() -> Module;
+    fn qsm_reset(m: *mut Module) -> Answer;
+    fn qsm_hold(m: *mut Module, pins: u8, rxd: bool, clocks: u16) -> Answer;
+    fn qsm_read(m: *mut Module, supervisor: bool, width: u8, offset: u16) -> Answer;
+    fn qsm_write(m: *mut Module, supervisor: bool, width: u8, offset: u16, value: u32) -> Answer;
+    fn qsm_play(m: Module, trace: *const u8, length: usize, log: *mut u8, room: usize) -> Played;
+}
+
+impl Default for Module {
+    fn default() -> Self {
+        Self::new()
+    }
+}
+
+// The header asks for one valid module that nobody else uses, buffers of the given lengths that don't
+// overlap, and bools that are 0 or 1. References, slices and `bool` are all of that.
+impl Module {
+    pub fn new() -> Self {
+        // SAFETY: it takes nothing.
+        unsafe { qsm_new() }
+    }
+
+    pub fn reset(&mut self) -> Answer {
+        // SAFETY: as said above.
+        unsafe { qsm_reset(self) }
+    }
+
+    pub fn hold(&mut self, pins: u8, rxd: bool, clocks: u16) -> Answer {
+        // SAFETY: as said above.
+        unsafe { qsm_hold(self, pins, rxd, clocks) }
+    }
+
+    pub fn read(&mut self, supervisor: bool, width: u8, offset: u16) -> Answer {
+        // SAFETY: as said above.
+        unsafe { qsm_read(self, supervisor, width, offset) }
+    }
+
+    pub fn write(&mut self, supervisor: bool, width: u8, offset: u16, value: u32) -> Answer {
+        // SAFETY: as said above.
+        unsafe { qsm_write(self, supervisor, width, offset, value) }
+    }
+
+    pub fn play(self, trace: &[u8], log: &mut [u8]) -> Played {
+        // SAFETY: as said above.
+        unsafe {
+            qsm_play(
+                self,
+                trace.as_ptr(),
+                trace.len(),
+                log.as_mut_ptr(),
+                log.len(),
+            )
+        }
+    }
+}
+
+impl From<Answer> for reference::Answer {
+    fn from(answer: Answer) -> Self {
+        Self {
+            refusal: answer.refusal,
+            value: answer.value,
+            levels: answer.levels,
+            mask: answer.mask,
+            level: answer.level,
+            vector: answer.vector,
+        }
+    }
+}
