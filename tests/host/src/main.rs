@@ -96,7 +96,6 @@ fn main() -> ExitCode {
     if !seeds.iter().all(|&seed| run(seed, &mut totals)) {
         return ExitCode::FAILURE;
     }
-    println!("{} events, {} clocks", totals.events, totals.clocks);
     println!("refusals 1 to 7: {:?} times", &totals.refusals[1..]);
     println!("flags read: {}", totals.shown);
     let all = totals.refusals.iter().all(|&count| count > 0) && totals.shown.all();
@@ -104,5 +103,7 @@ fn main() -> ExitCode {
         println!("too little: a refusal or a flag never came, or fewer than {LEAST_CLOCKS} clocks");
         return ExitCode::FAILURE;
     }
+    let Totals { events, clocks, .. } = totals;
+    println!("{events} events over {clocks} clocks answered alike");
     ExitCode::SUCCESS
 }
