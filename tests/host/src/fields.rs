@@ -41,5 +41,10 @@ pub fn check(m: &Module) -> Result<(), Difference> {
             read(m, width, offset),
         )?;
     }
-    Ok(())
+    // These two show on pins only.
+    let mut copy = *m;
+    copy.write(true, 1, 0x15, 0x5A);
+    copy.hold(0xC3, true, 0);
+    same(|| "field portqs".into(), copy.portqs, 0x5A)?;
+    same(|| "field inputs".into(), copy.inputs, 0xC3)
 }

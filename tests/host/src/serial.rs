@@ -52,6 +52,11 @@ pub fn next(random: &mut Random, line: &mut Line, pins: u8) -> Event {
         36 if random.percent(30) => write(2, SCCR1, random.some(SETTINGS | REQUESTS) | TE | RE),
         37 if random.percent(30) => write(2, SCCR0, random.below(4)),
         38 if random.percent(30) => write(4, random.pick(&[SCSR, SCCR0]), random.some(0x1FF)),
+        39 if random.percent(20) => Event::Hold {
+            pins,
+            rxd: random.percent(80),
+            clocks: random.below(0x10000) as u16,
+        },
         _ => line.hold(random, pins),
     }
 }
