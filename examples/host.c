@@ -18,10 +18,10 @@ static const char program[] = "N10 G00 X0 Y0\n"
 
 struct card {
     struct qsm qsm;
-    uint64_t now; /* system clocks */
-    uint64_t sent; /* bits, by the sender */
-    uint64_t next_poll, poll_every;
-    char line[80]; /* as much as has come of a line */
+    uint64_t now;                   /* system clocks */
+    uint64_t next_poll, poll_every; /* likewise */
+    uint64_t sent;                  /* bits, by the sender */
+    char line[80];                  /* as much as has come of a line */
     size_t length;
     bool damaged; /* an overrun was seen in it */
     unsigned overruns;

@@ -7,6 +7,8 @@
  *     qsm_write(&card, true, 2, QSM_SCCR1, QSM_TE | QSM_RE);
  *     struct qsm_answer a = qsm_hold(&card, 0xFF, true, 1000);
  *
+ * A CPU emulator calls qsm_read and qsm_write at each bus access, and qsm_hold for each stretch of time between them.
+ *
  * Every call is answered, whatever the numbers in it: nothing else is asked of the caller than this.
  *   - A `struct qsm *` points to one valid module, which nobody else uses during the call. Valid is what qsm_new gave, a copy of it
  *     (assignment or memcpy: a saved state is a copy), and what these functions made of it. Never null.
@@ -74,7 +76,7 @@ struct qsm_answer {
     uint8_t levels;  /* levels of the driven pins; 0 for the others */
     uint8_t mask;    /* which pins the module drives */
     uint8_t level;   /* level of the interrupt request, 1 to 7; 0 where there is none */
-    uint8_t vector;  /* its vector; 0 where there is none */
+    uint8_t vector;  /* its vector, odd for the queue half, even for the serial half; 0 where there is none */
 };
 
 /* The module's state, part by part. A host may look inside and need not. */
