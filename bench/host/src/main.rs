@@ -5,7 +5,7 @@ use std::hint::black_box;
 use std::time::Instant;
 
 /// Turns for each call; the best one counts.
-const TURNS: usize = 9;
+const TURNS: usize = 60;
 
 const SCSR: u16 = 0x0C;
 const PINS: u8 = 0xFF;
@@ -89,9 +89,9 @@ fn main() {
         let library = set_up(qsm::Module::new(), busy);
         let reference = set_up(reference::Module::new(), busy);
         for (name, call, count) in [
-            ("read of SCSR", Call::Read, 1_000_000),
-            ("hold of 1 clock", Call::Hold(1), 1_000_000),
-            ("hold of 1,000 clocks", Call::Hold(1000), 5_000),
+            ("read of SCSR", Call::Read, 100_000),
+            ("hold of 1 clock", Call::Hold(1), 100_000),
+            ("hold of 1,000 clocks", Call::Hold(1000), 1_000),
         ] {
             let mut best = [f64::MAX; 2];
             for _ in 0..TURNS {
