@@ -12,3 +12,4 @@ pub mod Reading
 pub mod Stopping
 pub mod Sent
 pub mod Arriving
+pub mod Keeping
