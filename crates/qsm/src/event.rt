@@ -55,23 +55,6 @@ pub struct Stepped {
 }
 
 impl Module {
-    fn answer(self, refusal: u8, value: u32) -> Answer
-        ensures { λ r. ⌜ r ≡ answerOf self refusal value ⌝ }
-    {
-        let sci = self.sci;
-        let qspi = self.qspi;
-        let pins = outputs_of(self);
-        let asked = request_of(qspi.asks(), sci.asks(), self.qilr, self.qivr);
-        Answer {
-            refusal,
-            value,
-            levels: pins.levels(),
-            mask: pins.mask(),
-            level: asked.level,
-            vector: asked.vector,
-        }
-    }
-
     fn done(self, refusal: u8, value: u32) -> Done
         ensures { λ r. ⌜ r ≡ done self refusal value ⌝ }
     {
@@ -222,14 +205,29 @@ impl Module {
 }
 
 impl Done {
-    fn answered(self) -> Stepped
-        ensures { λ r. ⌜ r ≡ answered self ⌝ }
+    fn answer(self) -> Answer
+        ensures { λ r. ⌜ r ≡ answerOf (self .state) (self .refusal) (self .value) ⌝ }
     {
         let state = self.state;
-        Stepped {
-            state,
-            answer: state.answer(self.refusal, self.value),
+        let sci = state.sci;
+        let qspi = state.qspi;
+        let pins = outputs_of(state);
+        let asked = request_of(qspi.asks(), sci.asks(), state.qilr, state.qivr);
+        Answer {
+            refusal: self.refusal,
+            value: self.value,
+            levels: pins.levels(),
+            mask: pins.mask(),
+            level: asked.level,
+            vector: asked.vector,
         }
+    }
+
+    fn with(self, answer: Answer) -> Stepped
+        ensures { λ r. ⌜ r ≡ record { state = self .state; answer = answer } ⌝ }
+    {
+        let state = self.state;
+        Stepped { state, answer }
     }
 }
 
@@ -237,28 +235,32 @@ impl Done {
 pub fn reset() -> Stepped
     ensures { λ r. ⌜ r ≡ answered resets ⌝ }
 {
-    Module::reset().done(0, 0).answered()
+    let d = Module::reset().done(0, 0);
+    d.with(d.answer())
 }
 
 // Ruled out: only the first clock played; the levels of the hold before it.
 pub fn hold(m: Module, pins: u8, rxd: bool, clocks: u16) -> Stepped
     ensures { λ r. ⌜ r ≡ answered (holds m pins rxd clocks) ⌝ }
 {
-    m.holds(pins, rxd, clocks).answered()
+    let d = m.holds(pins, rxd, clocks);
+    d.with(d.answer())
 }
 
 // Ruled out: every read answered 0; a blocked user's read with a side effect.
 pub fn read(m: Module, supervisor: bool, width: u8, offset: u16) -> Stepped
     ensures { λ r. ⌜ r ≡ answered (reads m supervisor width offset) ⌝ }
 {
-    m.reads(supervisor, width, offset).answered()
+    let d = m.reads(supervisor, width, offset);
+    d.with(d.answer())
 }
 
 // Ruled out: every write refused; a refused write that leaves its first half.
 pub fn write(m: Module, supervisor: bool, width: u8, offset: u16, value: u32) -> Stepped
     ensures { λ r. ⌜ r ≡ answered (writes m supervisor width offset value) ⌝ }
 {
-    m.writes(supervisor, width, offset, value).answered()
+    let d = m.writes(supervisor, width, offset, value);
+    d.with(d.answer())
 }
 
 // The step from one event to the next.
@@ -266,5 +268,6 @@ pub fn write(m: Module, supervisor: bool, width: u8, offset: u16, value: u32) ->
 pub fn step(m: Module, e: Event) -> Stepped
     ensures { λ r. ⌜ r ≡ step m e ⌝ }
 {
-    m.does(e).answered()
+    let d = m.does(e);
+    d.with(d.answer())
 }

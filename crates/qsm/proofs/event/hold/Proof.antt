@@ -3,7 +3,7 @@ use Rattle.qsm.proofs.event.hold.Statement.{statement}
 use Rattle.qsm.proofs.event.hold.Tie as tie
 
 returns : tie.Need-returns
-returns c = rw (c .answered .ensures, c .before .holds .ensures)
+returns c = rw (c .with .ensures, c .before .answer .ensures, c .before .before .holds .ensures)
 
 pub hold-spec : {M : Type 1} → statement M
-hold-spec = tie.close (tie.spec (λ c κs. search needs) (λ c κs. search needs) returns)
+hold-spec = tie.close (tie.spec (λ c κs. search needs) (λ c κs. search needs) (λ c κs. search needs) returns)

@@ -5,7 +5,7 @@ use Rattle.qsm.proofs.event.step.Tie as tie
 
 returns : tie.Need-returns
 unfolding step
-returns c = rw (c .answered .ensures, c .before .does .ensures)
+returns c = rw (c .with .ensures, c .before .answer .ensures, c .before .before .does .ensures)
 
 pub step-spec : {M : Type 1} → statement M
-step-spec = tie.close (tie.spec (λ c κs. search needs) (λ c κs. search needs) returns)
+step-spec = tie.close (tie.spec (λ c κs. search needs) (λ c κs. search needs) (λ c κs. search needs) returns)

@@ -1,7 +1,7 @@
 use Rattle.qsm.specs.Event.{answerOf}
 use borrow.Author.Needs.{needs}
-use Rattle.qsm.proofs.state.Module.answer.Statement.{statement}
-use Rattle.qsm.proofs.state.Module.answer.Tie as tie
+use Rattle.qsm.proofs.event.Done.answer.Statement.{statement}
+use Rattle.qsm.proofs.event.Done.answer.Tie as tie
 
 returns : tie.Need-returns
 unfolding answerOf
