@@ -24,7 +24,7 @@ fn hex(n: u8) {
 }
 
 // What stands before a byte of an answer.
-fn name(place: usize) {
+fn field(place: usize) {
     match place {
         0 => text(b"kind "),
         1 => text(b", refusal "),
@@ -39,7 +39,7 @@ fn name(place: usize) {
 
 fn byte(out: &[u8], at: usize) {
     if at < out.len() {
-        name(at % ANSWER_LENGTH);
+        field(at % ANSWER_LENGTH);
         hex(out[at]);
     }
     if at % ANSWER_LENGTH == 9 {
@@ -85,82 +85,25 @@ fn rest(unchanged: bool) {
     }
 }
 
-// Plays a trace into an output, and prints the answers, how it stopped, and the bytes read and written. The module that it left.
-pub(crate) fn played(label: &[u8], m: Module, trace: &[u8], out: &mut [u8]) -> Module {
-    text(b"  ");
-    text(label);
+// The name of a case, which starts with a space.
+pub(crate) fn name(t: &[u8]) {
+    text(b" ");
+    text(t);
     text(b": ");
-    let p = trace::play(m, trace, out);
-    let written = p.written;
-    let stop = p.stop;
+}
+
+fn report(out: &[u8], stop: usize, read: usize, written: usize) {
     answers(out, written);
-    decimal(b"stop ", trace::stop_number(stop) as usize);
-    decimal(b", read ", p.read);
+    decimal(b"stop ", stop);
+    decimal(b", read ", read);
     decimal(b", written ", written);
     rest(unchanged(out, written, out.len()));
+}
+
+// Plays a trace into an output, and prints the answers, how it stopped, and the bytes read and written. The module that it left.
+pub(crate) fn played(m: Module, trace: &[u8], out: &mut [u8]) -> Module {
+    let p = trace::play(m, trace, out);
+    let stop = p.stop;
+    report(out, trace::stop_number(stop) as usize, p.read, p.written);
     p.state
-}
-
-// The same for a single record, into an output with room for its answer and two bytes more.
-fn record(label: &[u8], m: Module, trace: &[u8]) -> Module {
-    let mut out = [FILL; 12];
-    played(label, m, trace, &mut out)
-}
-
-fn low(n: u16) -> u8 {
-    (n % 256) as u8
-}
-
-fn high(n: u16) -> u8 {
-    (n / 256 % 256) as u8
-}
-
-pub(crate) fn reset(label: &[u8], m: Module) -> Module {
-    record(label, m, &[1])
-}
-
-pub(crate) fn hold(label: &[u8], m: Module, pins: u8, rxd: u8, clocks: u16) -> Module {
-    record(label, m, &[2, pins, rxd, high(clocks), low(clocks)])
-}
-
-pub(crate) fn read(label: &[u8], m: Module, width: u8, offset: u16) -> Module {
-    record(label, m, &[3, width, high(offset), low(offset)])
-}
-
-pub(crate) fn write(label: &[u8], m: Module, width: u8, offset: u16, value: u32) -> Module {
-    let upper = (value / 65536 % 65536) as u16;
-    let lower = (value % 65536) as u16;
-    let trace = [
-        4,
-        width,
-        high(offset),
-        low(offset),
-        high(upper),
-        low(upper),
-        high(lower),
-        low(lower),
-    ];
-    record(label, m, &trace)
-}
-
-// The same, with the module that it leaves let go.
-pub(crate) fn try_hold(label: &[u8], m: Module, pins: u8, rxd: u8, clocks: u16) {
-    hold(label, m, pins, rxd, clocks);
-}
-
-pub(crate) fn try_read(label: &[u8], m: Module, width: u8, offset: u16) {
-    read(label, m, width, offset);
-}
-
-pub(crate) fn try_write(label: &[u8], m: Module, width: u8, offset: u16, value: u32) {
-    write(label, m, width, offset, value);
-}
-
-// The same on a module fresh from reset.
-pub(crate) fn fresh_read(label: &[u8], width: u8, offset: u16) {
-    read(label, Module::reset(), width, offset);
-}
-
-pub(crate) fn fresh_write(label: &[u8], width: u8, offset: u16, value: u32) {
-    write(label, Module::reset(), width, offset, value);
 }
