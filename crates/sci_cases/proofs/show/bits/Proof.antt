@@ -1,7 +1,7 @@
 use Prim.Native.Nat.{_≤_, _-_}
 use borrow.Author.Needs.{needs}
-use Rattle.sci_cases.proofs.sending.show_bits.Statement.{statement}
-use Rattle.sci_cases.proofs.sending.show_bits.Tie as tie
+use Rattle.sci_cases.proofs.show.bits.Statement.{statement}
+use Rattle.sci_cases.proofs.show.bits.Tie as tie
 
 abbrev Inv-loop : tie.InvT-loop
 Inv-loop n next₀ i₀ next i = i ≤ n
@@ -12,8 +12,8 @@ abbrev μ-loop : tie.MeasureT-loop
 loop-holds : tie.Need-loop-holds Inv-loop μ-loop
 loop-holds c = search needs
 
-show-bit-requires : tie.Need-show-bit-requires Inv-loop μ-loop
-show-bit-requires c κs = search needs
+level-requires : tie.Need-level-requires Inv-loop μ-loop
+level-requires c κs = search needs
 
 bit-requires : tie.Need-bit-requires Inv-loop μ-loop
 bit-requires c κs = search needs
@@ -30,7 +30,7 @@ loop-again c = search needs
 returns : tie.Need-returns Inv-loop μ-loop
 returns c = search needs
 
-pub show-bits-spec : {M : Type 1} → statement M
-show-bits-spec =
+pub bits-spec : {M : Type 1} → statement M
+bits-spec =
     tie.close
-    (tie.spec Inv-loop μ-loop loop-holds show-bit-requires bit-requires add-i loop-less loop-again returns)
+    (tie.spec Inv-loop μ-loop loop-holds level-requires bit-requires add-i loop-less loop-again returns)

@@ -1,7 +1,7 @@
 use Prim.Native.Nat.{_≤_, _-_}
 use borrow.Author.Needs.{needs}
-use Rattle.sci_cases.proofs.sending.ones.Statement.{statement}
-use Rattle.sci_cases.proofs.sending.ones.Tie as tie
+use Rattle.sci_cases.proofs.show.ones.Statement.{statement}
+use Rattle.sci_cases.proofs.show.ones.Tie as tie
 
 abbrev Inv-loop : tie.InvT-loop
 Inv-loop next₀ n₀ i₀ next n i = i ≤ 16
