@@ -11,7 +11,8 @@ use base.Logic.{SProp, ent, sep, wand, ex, id⊢, via, comm∗, assoc∗, assoc�
 use base.Fml.{Fml, Share, ftrue, fsep, fat, froom, fdies}
 use prog.Wp.{Heap, Env, Spot, noLocal, walk}
 use ghost.Atoms.{Atoms, sem}
-use types.Kit.{Given, Item, ‵, mean, ⋆, nth, del, pull, unpull, Goal, allocs, passes, frees, Seq, Step, step, _$_, move, drop, use1, fsplit, fjoin}
+use types.Kit.{Given, Item, ‵, mean, ⋆, nth, del, pull, unpull, Goal, allocs, passes, frees}
+use types.Kit.{Seq, Step, step, _$_, move, drop, use1, fsplit, fjoin}
 use types.Run.{Reads, Walks, Finds, Opds, stop, load, and-then, no-more, init, alloc1, pass1, pass0, free1}
 use denote.Steps.{nothing}
 use contract.Lifetimes.{Lfts}
@@ -57,7 +58,9 @@ abbrev pub Found : List (Ty × ℕ) → ℕ → (Ty × ℕ) → (Ps : List Param
 Found E i d [] at = Unit {0}
 Found E i d (P ∷ Ps) at = (getD E i d ≡ (P .τ, at .0)) × Found E (suc i) d Ps (at .1)
 
-later : (E : List (Ty × ℕ)) (e : Ty × ℕ) (i : ℕ) (d : Ty × ℕ) (Ps : List Param) (at : Places Ps) → Found E i d Ps at → Found (e ∷ E) (suc i) d Ps at
+later :
+    (E : List (Ty × ℕ)) (e : Ty × ℕ) (i : ℕ) (d : Ty × ℕ) (Ps : List Param) (at : Places Ps) → Found E i d Ps at →
+    Found (e ∷ E) (suc i) d Ps at
 later E e i d [] at f = tt
 later E e i d (P ∷ Ps) at f = (f .0, later E e (suc i) d Ps (at .1) (f .1))
 
@@ -86,7 +89,8 @@ module _ {M : Type 1} {𝓤 : URA M} {H : Heap 𝓤} {A : Atoms 𝓤} {K : Type 
   -- what was passed is stored
   pub pass-all :
       {Γ : List (Item 𝓤)} → K → (n : ℕ) (κs : Lfts n) (Ps : List Param) (at : Places Ps) (p : Passed n κs Ps) → AreAll n κs Ps p →
-      (E : Env 𝓤 H) {g : Goal 𝓤 H} → Step K W (‵ (cells n κs Ps at p) ∷ Γ) g (‵ (rooms Ps at) ∷ Γ) (passes (env Ps at E) (values n κs Ps p) g)
+      (E : Env 𝓤 H) {g : Goal 𝓤 H} →
+      Step K W (‵ (cells n κs Ps at p) ∷ Γ) g (‵ (rooms Ps at) ∷ Γ) (passes (env Ps at E) (values n κs Ps p) g)
   pass-all t n κs [] at p are E = pass0 t
   pass-all t n κs (P ∷ Ps) at p are E = step (λ s.
       fsplit t $ fsplit t $ pass1 t (init t 0 refl (P .typed 𝓤 H A W (p .0) (are .0))) $ move t (2 ∷ 0 ∷ 1 ∷ []) $

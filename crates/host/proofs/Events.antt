@@ -46,7 +46,9 @@ pub hold-steps : (m : Module) (pins : ℕ) (rxd : Bool) (n : ℕ) → answered (
 unfolding step does
 hold-steps m pins rxd n = refl
 
-pub read-steps : (m : Module) (supervisor : Bool) (width offset : ℕ) → answered (reads m supervisor width offset) ≡ step m (readEvent supervisor width offset)
+pub read-steps :
+    (m : Module) (supervisor : Bool) (width offset : ℕ) →
+    answered (reads m supervisor width offset) ≡ step m (readEvent supervisor width offset)
 unfolding step does
 read-steps m supervisor width offset = refl
 

@@ -1,4 +1,5 @@
 pub mod Params
 pub mod Block
 pub mod Events
+pub mod Shape
 pub mod Entry
