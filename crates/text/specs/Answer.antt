@@ -1,0 +1,57 @@
+-- The line of an answer: `8: refusal 2 (unmapped), value 00000000, pins TXD=0, no request`.
+use mathlib.Core.Bool.{Bool, cond}
+use mathlib.Core.List.{List, [], _∷_, _++_}
+use Prim.Native.Nat.{ℕ}
+use lib.Dec.{eqb}
+use Rattle.steps.specs.Bits.{bit}
+use Rattle.qsm.specs.declared.event.Answer.{Answer}
+use Rattle.text.specs.Digits.{ascii, decimal, hexByte, hexLong, number}
+
+-- Document 01, Seven refusals: those that an access is answered with.
+unfoldable pub refusal : ℕ → List ℕ
+refusal number =
+    cond (eqb number 0) (ascii "ok")
+    (cond (eqb number 1) (ascii "refusal 1 (misshapen)")
+    (cond (eqb number 2) (ascii "refusal 2 (unmapped)")
+    (cond (eqb number 3) (ascii "refusal 3 (unmodelled bit)")
+    (cond (eqb number 4) (ascii "refusal 4 (guarded field)")
+    (ascii "unknown refusal")))))
+
+-- A pin by its name with its level, if it is driven.
+abbrev pub pin : List ℕ → Bool → Bool → List ℕ
+pin name driven high = cond driven (name ++ cond high (ascii "=1") (ascii "=0")) []
+
+-- Pins 0 to 7.
+unfoldable pub eachPin : ℕ → ℕ → List ℕ
+eachPin mask levels =
+    pin (ascii " MISO") (bit 0 mask) (bit 0 levels)
+    ++ pin (ascii " MOSI") (bit 1 mask) (bit 1 levels)
+    ++ pin (ascii " SCK") (bit 2 mask) (bit 2 levels)
+    ++ pin (ascii " PCS0") (bit 3 mask) (bit 3 levels)
+    ++ pin (ascii " PCS1") (bit 4 mask) (bit 4 levels)
+    ++ pin (ascii " PCS2") (bit 5 mask) (bit 5 levels)
+    ++ pin (ascii " PCS3") (bit 6 mask) (bit 6 levels)
+    ++ pin (ascii " TXD") (bit 7 mask) (bit 7 levels)
+
+unfoldable pub pins : ℕ → ℕ → List ℕ
+pins mask levels = cond (eqb mask 0) (ascii "no pin driven") (ascii "pins" ++ eachPin mask levels)
+
+-- Level 0 is no request.
+unfoldable pub request : ℕ → ℕ → List ℕ
+request level vector =
+    cond (eqb level 0) (ascii "no request")
+    (ascii "request level " ++ decimal 3 level ++ ascii " vector " ++ hexByte vector)
+
+unfoldable pub fields : Answer → List ℕ
+fields a =
+    refusal (a .refusal)
+    ++ ascii ", value "
+    ++ hexLong (a .value)
+    ++ ascii ", "
+    ++ pins (a .mask) (a .levels)
+    ++ ascii ", "
+    ++ request (a .level) (a .vector)
+
+-- The line of answer n, with the byte that ends a line.
+abbrev pub answerLine : ℕ → Answer → List ℕ
+answerLine n a = number n ++ fields a ++ (10 ∷ [])

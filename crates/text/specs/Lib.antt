@@ -1,0 +1,6 @@
+pub mod Digits
+pub mod Line
+pub mod Answer
+pub mod Register
+pub mod Record
+pub mod Log
