@@ -142,13 +142,22 @@ place-length : (supervisor : Bool) (width offset : ℕ) → length (place superv
 unfolding place
 place-length supervisor width offset =
     simp length-append
-    (omega (arith, either supervisor (ascii " as supervisor, width ") (ascii " as user, width ") 22 (omega arith) (omega arith), decimal-length 3 width, registers-length width offset))
+    (omega (
+      arith,
+      either supervisor (ascii " as supervisor, width ") (ascii " as user, width ") 22 (omega arith) (omega arith),
+      decimal-length 3 width,
+      registers-length width offset,
+    ))
 
 hold-length : (pins : ℕ) (rxd : Bool) (clocks : ℕ) → length (hold pins rxd clocks) ≤ 33
 unfolding hold
 hold-length pins rxd clocks =
     simp length-append
-    (omega (arith, either rxd (ascii ", RXD 1, clocks ") (ascii ", RXD 0, clocks ") 16 (omega arith) (omega arith), decimal-length 5 clocks))
+    (omega (
+      arith,
+      either rxd (ascii ", RXD 1, clocks ") (ascii ", RXD 0, clocks ") 16 (omega arith) (omega arith),
+      decimal-length 5 clocks,
+    ))
 
 access-length : (a : Access) → length (access a) ≤ 99
 access-length (Read supervisor width offset) = simp length-append (omega (arith, place-length supervisor width offset))

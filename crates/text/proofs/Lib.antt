@@ -1,3 +1,4 @@
 pub mod Puts
 pub mod Decimal
 pub mod Lengths
+pub mod ReadBack

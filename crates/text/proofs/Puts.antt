@@ -4,7 +4,7 @@ use mathlib.Core.List.{List, [], _∷_, _++_, append-nil, append-assoc}
 use Prim.Native.Nat.{ℕ, suc, _+_, _<_, _≤_}
 use native.Mathlib.Numerals.{add-one}
 use native.Mathlib.Omega.{arith}
-use lib.ListN.{length, take, getD, set, length-set, length-replicate}
+use lib.ListN.{length, take, getD, set, length-set, length-take, length-replicate}
 use lib.Seq.{take-suc, take-suc-set}
 use borrow.Author.Tests.{lt-ltb}
 use Rattle.text.specs.Line.{room, empty, put, puts, Shows}
@@ -47,10 +47,12 @@ shows-behind : (l : Line) (t : List ℕ) → length (l .bytes) ≡ room → l .l
 shows-behind l [] all fits = rw puts-none (sym (append-nil _), omega arith)
 shows-behind l (b ∷ t) all fits =
     rw (puts-first, put-stored l b (omega arith))
-    (let on : Behind (stored l b) t (puts (stored l b) t) = shows-behind (stored l b) t (length-set (l .bytes) (l .length) b ∙ all) (omega arith) in
-    (on .0 ∙ rw (add-one, take-suc-set (l .bytes) (l .length) b (omega arith)) (append-assoc (take (l .length) (l .bytes)) (b ∷ []) t), omega arith))
+    (let on : Behind (stored l b) t (puts (stored l b) t) = shows-behind (stored l b) t (length-set (l .bytes) (l .length) b ∙ all) (omega arith) in (
+      on .0 ∙ rw (add-one, take-suc-set (l .bytes) (l .length) b (omega arith)) (append-assoc (take (l .length) (l .bytes)) (b ∷ []) t),
+      omega arith,
+    ))
 
 pub shows : (t : List ℕ) → length t ≤ room → Shows (puts empty t) t
 shows t fits =
     let behind : Behind empty t (puts empty t) = shows-behind empty t (length-replicate {A = ℕ} room 0) (omega arith) in
-    record { text = behind .0; fits = omega arith }
+    record { text = behind .0; fits = omega (arith, simp length-take at (ap length (behind .0))) }

@@ -4,3 +4,4 @@ pub mod Answer
 pub mod Register
 pub mod Record
 pub mod Log
+pub mod Laws

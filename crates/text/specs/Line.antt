@@ -4,7 +4,7 @@ use mathlib.Core.Bool.{cond}
 use mathlib.Core.List.{List, [], _∷_}
 use Prim.Native.Nat.{ℕ, _+_, _≤_}
 use lib.Dec.{ltb}
-use lib.ListN.{take, set, replicate}
+use lib.ListN.{length, take, set, replicate}
 use Rattle.text.specs.declared.line.Line.{Line}
 
 -- The bytes that a line has room for.
@@ -14,7 +14,7 @@ room = 160
 -- A line whose text is t, whole.
 pub record Shows (l : Line) (t : List ℕ) : Type 0 where
   pub text : take (l .length) (l .bytes) ≡ t
-  pub fits : l .length ≤ room
+  pub fits : l .length ≤ length (l .bytes)
 
 abbrev pub empty : Line
 empty = record { bytes = replicate room 0; length = 0 }

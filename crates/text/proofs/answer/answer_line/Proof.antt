@@ -8,7 +8,13 @@ use Rattle.text.proofs.answer.answer_line.Tie as tie
 returns : tie.Need-returns
 returns c =
     let start = c .before .before .before .before in
-    rw (c .put .ensures, c .before .fields .ensures, c .before .before .number .ensures, c .before .before .before .empty .ensures, put-puts) (simp puts-append (shows (answerLine (start .args .n) (start .args .a)) (answer-fits (start .args .n) (start .args .a))))
+    rw (
+      c .put .ensures,
+      c .before .fields .ensures,
+      c .before .before .number .ensures,
+      c .before .before .before .empty .ensures,
+      put-puts,
+    ) (simp puts-append (shows (answerLine (start .args .n) (start .args .a)) (answer-fits (start .args .n) (start .args .a))))
 
 pub answer-line-spec : {M : Type 1} → statement M
 answer-line-spec =

@@ -8,7 +8,13 @@ use Rattle.text.proofs.record.record_line.Tie as tie
 returns : tie.Need-returns
 returns c =
     let start = c .before .before .before .before in
-    rw (c .put .ensures, c .before .event .ensures, c .before .before .number .ensures, c .before .before .before .empty .ensures, put-puts) (simp puts-append (shows (recordLine (start .args .n) (start .args .e)) (record-fits (start .args .n) (start .args .e))))
+    rw (
+      c .put .ensures,
+      c .before .event .ensures,
+      c .before .before .number .ensures,
+      c .before .before .before .empty .ensures,
+      put-puts,
+    ) (simp puts-append (shows (recordLine (start .args .n) (start .args .e)) (record-fits (start .args .n) (start .args .e))))
 
 pub record-line-spec : {M : Type 1} → statement M
 record-line-spec =

@@ -24,24 +24,71 @@ at t = and 0 decimal-kinds.ps (is 0 decimal-kinds.ps μ-decimal t) decimal.Pre
 abbrev below : ℕ → In 0 decimal-kinds.ps
 below t = and 0 decimal-kinds.ps (falls 0 decimal-kinds.ps _<_ μ-decimal t) decimal.Pre
 
-returns : (t : ℕ) → lts.Need-returns (digit-reads.Asked, digit-reads.Learnt, put-reads.Asked, put-reads.Learnt, below t, decimal.Post) (at t) decimal.Post
+returns : (t : ℕ) → lts.Need-returns (
+  digit-reads.Asked,
+  digit-reads.Learnt,
+  put-reads.Asked,
+  put-reads.Learnt,
+  below t,
+  decimal.Post,
+) (at t) decimal.Post
 returns t c = rw (c .if1 .taken, decimal-none, puts-none)
 
-returns-2 : (t : ℕ) → lts.Need-returns-2 (digit-reads.Asked, digit-reads.Learnt, put-reads.Asked, put-reads.Learnt, below t, decimal.Post) (at t) decimal.Post
+returns-2 : (t : ℕ) → lts.Need-returns-2 (
+  digit-reads.Asked,
+  digit-reads.Learnt,
+  put-reads.Asked,
+  put-reads.Learnt,
+  below t,
+  decimal.Post,
+) (at t) decimal.Post
 returns-2 t c =
     let start = c .before .before .before .before in
-    rw (c .put .ensures, c .before .decimal-digit .ensures, put-puts, decimal-one (start .args .digits) (start .args .n) (omega arith) (omega arith))
+    rw (
+      c .put .ensures,
+      c .before .decimal-digit .ensures,
+      put-puts,
+      decimal-one (start .args .digits) (start .args .n) (omega arith) (omega arith),
+    )
 
-sub-decimal : (t : ℕ) → lts.Need-sub-decimal (digit-reads.Asked, digit-reads.Learnt, put-reads.Asked, put-reads.Learnt, below t, decimal.Post) (at t) decimal.Post
+sub-decimal : (t : ℕ) → lts.Need-sub-decimal (
+  digit-reads.Asked,
+  digit-reads.Learnt,
+  put-reads.Asked,
+  put-reads.Learnt,
+  below t,
+  decimal.Post,
+) (at t) decimal.Post
 sub-decimal t c = omega arith
 
-decimal-requires : (t : ℕ) → lts.Need-decimal-requires (digit-reads.Asked, digit-reads.Learnt, put-reads.Asked, put-reads.Learnt, below t, decimal.Post) (at t) decimal.Post
+decimal-requires : (t : ℕ) → lts.Need-decimal-requires (
+  digit-reads.Asked,
+  digit-reads.Learnt,
+  put-reads.Asked,
+  put-reads.Learnt,
+  below t,
+  decimal.Post,
+) (at t) decimal.Post
 decimal-requires t c κs = (omega arith, tt)
 
-returns-3 : (t : ℕ) → lts.Need-returns-3 (digit-reads.Asked, digit-reads.Learnt, put-reads.Asked, put-reads.Learnt, below t, decimal.Post) (at t) decimal.Post
+returns-3 : (t : ℕ) → lts.Need-returns-3 (
+  digit-reads.Asked,
+  digit-reads.Learnt,
+  put-reads.Asked,
+  put-reads.Learnt,
+  below t,
+  decimal.Post,
+) (at t) decimal.Post
 returns-3 t c =
     let start = c .before .before .before .before .before in
-    rw (c .put2 .ensures, c .before .decimal-digit2 .ensures, c .before .before .decimal .ensures, put-puts, puts-append, decimal-more (start .args .digits) (start .args .n) (omega arith) (omega arith))
+    rw (
+      c .put2 .ensures,
+      c .before .decimal-digit2 .ensures,
+      c .before .before .decimal .ensures,
+      put-puts,
+      puts-append,
+      decimal-more (start .args .digits) (start .args .n) (omega arith) (omega arith),
+    )
 
 pub +decimal-spec : {M : Type 1} → statement M
 +decimal-spec =

@@ -7,7 +7,14 @@ returns : tie.Need-returns
 returns c = rw (c .place .ensures, c .before .write .ensures, c .before .before .before .before .a .given .1) (simp puts-append)
 
 returns-2 : tie.Need-returns-2
-returns-2 c = rw (c .hex-long .ensures, c .before .write3 .ensures, c .before .before .before .place2 .ensures, c .before .before .before .before .write2 .ensures, c .before .before .before .before .before .before .before .a2 .given .1) (simp puts-append)
+returns-2 c =
+    rw (
+      c .hex-long .ensures,
+      c .before .write3 .ensures,
+      c .before .before .before .place2 .ensures,
+      c .before .before .before .before .write2 .ensures,
+      c .before .before .before .before .before .before .before .a2 .given .1,
+    ) (simp puts-append)
 
 pub access-spec : {M : Type 1} → statement M
 access-spec =

@@ -14,7 +14,14 @@ returns-2 c = rw (c .decimal2 .ensures, c .before .enum-told2 .given .1, c .befo
 
 returns-3 : tie.Need-returns-3
 unfolding command
-returns-3 c = rw (c .decimal4 .ensures, c .before .write2 .ensures, c .before .before .before .decimal3 .ensures, c .before .before .before .before .enum-told3 .given .1, c .before .before .before .before .before .before .write .ensures) (simp puts-append)
+returns-3 c =
+    rw (
+      c .decimal4 .ensures,
+      c .before .write2 .ensures,
+      c .before .before .before .decimal3 .ensures,
+      c .before .before .before .before .enum-told3 .given .1,
+      c .before .before .before .before .before .before .write .ensures,
+    ) (simp puts-append)
 
 pub command-spec : {M : Type 1} → statement M
 command-spec =

@@ -7,7 +7,20 @@ use Rattle.text.proofs.line.Line.each_pin.Tie as tie
 
 returns : tie.Need-returns
 unfolding eachPin
-returns c = rw (c .pin8 .ensures, c .before .before .pin7 .ensures, c .before .before .before .before .pin6 .ensures, c .before .before .before .before .before .before .pin5 .ensures, c .before .before .before .before .before .before .before .before .pin4 .ensures, c .before .before .before .before .before .before .before .before .before .before .pin3 .ensures, c .before .before .before .before .before .before .before .before .before .before .before .before .pin2 .ensures, c .before .before .before .before .before .before .before .before .before .before .before .before .before .before .pin .ensures) (simp (puts-append, div-one))
+returns c =
+    rw (
+      c .pin8 .ensures,
+      c .before .before .pin7 .ensures,
+      c .before .before .before .before .pin6 .ensures,
+      c .before .before .before .before .before .before .pin5 .ensures,
+      c .before .before .before .before .before .before .before .before .pin4 .ensures,
+      c .before .before .before .before .before .before .before .before .before .before .pin3 .ensures,
+      c .before .before .before .before .before .before .before .before .before .before .before .before .pin2 .ensures,
+      c .before .before .before .before .before .before .before .before .before .before .before .before .before .before .pin .ensures,
+    ) (simp (
+      puts-append,
+      div-one,
+    ))
 
 pub each-pin-spec : {M : Type 1} → statement M
 each-pin-spec =

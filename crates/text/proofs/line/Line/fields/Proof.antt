@@ -6,7 +6,16 @@ use Rattle.text.proofs.line.Line.fields.Tie as tie
 
 returns : tie.Need-returns
 unfolding fields
-returns c = rw (c .request .ensures, c .before .write3 .ensures, c .before .before .before .pins .ensures, c .before .before .before .before .write2 .ensures, c .before .before .before .before .before .before .hex-long .ensures, c .before .before .before .before .before .before .before .write .ensures, c .before .before .before .before .before .before .before .before .before .refusal .ensures) (simp puts-append)
+returns c =
+    rw (
+      c .request .ensures,
+      c .before .write3 .ensures,
+      c .before .before .before .pins .ensures,
+      c .before .before .before .before .write2 .ensures,
+      c .before .before .before .before .before .before .hex-long .ensures,
+      c .before .before .before .before .before .before .before .write .ensures,
+      c .before .before .before .before .before .before .before .before .before .refusal .ensures,
+    ) (simp puts-append)
 
 pub fields-spec : {M : Type 1} → statement M
 fields-spec =

@@ -4,7 +4,13 @@ use Rattle.text.proofs.line.Line.hex_byte.Statement.{statement}
 use Rattle.text.proofs.line.Line.hex_byte.Tie as tie
 
 returns : tie.Need-returns
-returns c = rw (c .put2 .ensures, c .before .hex-digit2 .ensures, c .before .before .put .ensures, c .before .before .before .hex-digit .ensures) (simp (put-puts, puts-append))
+returns c =
+    rw (
+      c .put2 .ensures,
+      c .before .hex-digit2 .ensures,
+      c .before .before .put .ensures,
+      c .before .before .before .hex-digit .ensures,
+    ) (simp (put-puts, puts-append))
 
 pub hex-byte-spec : {M : Type 1} → statement M
 hex-byte-spec =

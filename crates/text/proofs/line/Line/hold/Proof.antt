@@ -6,11 +6,25 @@ use Rattle.text.proofs.line.Line.hold.Tie as tie
 
 returns : tie.Need-returns
 unfolding hold
-returns c = rw (c .decimal .ensures, c .before .write2 .ensures, c .before .before .before .if1 .taken, c .before .before .before .before .hex-byte .ensures, c .before .before .before .before .before .write .ensures) (simp puts-append)
+returns c =
+    rw (
+      c .decimal .ensures,
+      c .before .write2 .ensures,
+      c .before .before .before .if1 .taken,
+      c .before .before .before .before .hex-byte .ensures,
+      c .before .before .before .before .before .write .ensures,
+    ) (simp puts-append)
 
 returns-2 : tie.Need-returns-2
 unfolding hold
-returns-2 c = rw (c .decimal2 .ensures, c .before .write3 .ensures, c .before .before .before .if1 .left, c .before .before .before .before .hex-byte .ensures, c .before .before .before .before .before .write .ensures) (simp puts-append)
+returns-2 c =
+    rw (
+      c .decimal2 .ensures,
+      c .before .write3 .ensures,
+      c .before .before .before .if1 .left,
+      c .before .before .before .before .hex-byte .ensures,
+      c .before .before .before .before .before .write .ensures,
+    ) (simp puts-append)
 
 pub hold-spec : {M : Type 1} → statement M
 hold-spec =

@@ -6,7 +6,15 @@ use Rattle.text.proofs.line.Line.place.Tie as tie
 
 returns : tie.Need-returns
 unfolding place
-returns c = rw (c .hex-word .ensures, c .before .write2 .ensures, c .before .before .before .registers .ensures, c .before .before .before .before .write .ensures, c .before .before .before .before .before .before .decimal .ensures, c .before .before .before .before .before .before .before .privilege .ensures) (simp puts-append)
+returns c =
+    rw (
+      c .hex-word .ensures,
+      c .before .write2 .ensures,
+      c .before .before .before .registers .ensures,
+      c .before .before .before .before .write .ensures,
+      c .before .before .before .before .before .before .decimal .ensures,
+      c .before .before .before .before .before .before .before .privilege .ensures,
+    ) (simp puts-append)
 
 pub place-spec : {M : Type 1} → statement M
 place-spec =

@@ -26,7 +26,15 @@ returns-5 c = rw (c .write5 .ensures, c .before .before .match .keys5)
 
 returns-6 : tie.Need-returns-6
 unfolding refusal
-returns-6 c = rw (c .write6 .ensures, ne-eqb _ 0 (c .before .before .match .rest .0 .0 .0 .0 .1), ne-eqb _ 1 (c .before .before .match .rest .0 .0 .0 .1), ne-eqb _ 2 (c .before .before .match .rest .0 .0 .1), ne-eqb _ 3 (c .before .before .match .rest .0 .1), ne-eqb _ 4 (c .before .before .match .rest .1))
+returns-6 c =
+    rw (
+      c .write6 .ensures,
+      ne-eqb _ 0 (c .before .before .match .rest .0 .0 .0 .0 .1),
+      ne-eqb _ 1 (c .before .before .match .rest .0 .0 .0 .1),
+      ne-eqb _ 2 (c .before .before .match .rest .0 .0 .1),
+      ne-eqb _ 3 (c .before .before .match .rest .0 .1),
+      ne-eqb _ 4 (c .before .before .match .rest .1),
+    )
 
 pub refusal-spec : {M : Type 1} → statement M
 refusal-spec =

@@ -8,11 +8,27 @@ use Rattle.text.proofs.line.Line.registers.Tie as tie
 
 returns : tie.Need-returns
 unfolding registers
-returns c = rw (c .register2 .ensures, c .before .decode2 .ensures, c .before .before .write .ensures, eq-eqb _ _ (c .before .before .before .before .if1 .taken), c .before .before .before .before .before .register .ensures, c .before .before .before .before .before .before .decode .ensures, c .before .before .before .before .before .before .before .part-of .ensures) (simp (puts-append, append-assoc))
+returns c =
+    rw (
+      c .register2 .ensures,
+      c .before .decode2 .ensures,
+      c .before .before .write .ensures,
+      eq-eqb _ _ (c .before .before .before .before .if1 .taken),
+      c .before .before .before .before .before .register .ensures,
+      c .before .before .before .before .before .before .decode .ensures,
+      c .before .before .before .before .before .before .before .part-of .ensures,
+    ) (simp (puts-append, append-assoc))
 
 returns-2 : tie.Need-returns-2
 unfolding registers
-returns-2 c = rw (ne-eqb _ _ (c .if1 .left), c .before .register .ensures, c .before .before .decode .ensures, c .before .before .before .part-of .ensures, append-nil)
+returns-2 c =
+    rw (
+      ne-eqb _ _ (c .if1 .left),
+      c .before .register .ensures,
+      c .before .before .decode .ensures,
+      c .before .before .before .part-of .ensures,
+      append-nil,
+    )
 
 pub registers-spec : {M : Type 1} → statement M
 registers-spec =

@@ -11,7 +11,14 @@ returns c = rw (c .write .ensures, c .before .before .if1 .taken)
 
 returns-2 : tie.Need-returns-2
 unfolding request
-returns-2 c = rw (c .hex-byte .ensures, c .before .write3 .ensures, c .before .before .before .decimal .ensures, c .before .before .before .before .write2 .ensures, ne-eqb _ _ (c .before .before .before .before .before .before .if1 .left)) (simp puts-append)
+returns-2 c =
+    rw (
+      c .hex-byte .ensures,
+      c .before .write3 .ensures,
+      c .before .before .before .decimal .ensures,
+      c .before .before .before .before .write2 .ensures,
+      ne-eqb _ _ (c .before .before .before .before .before .before .if1 .left),
+    ) (simp puts-append)
 
 pub request-spec : {M : Type 1} → statement M
 request-spec =
