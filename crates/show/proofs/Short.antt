@@ -1,5 +1,6 @@
 -- What is cut has fewer than ten bytes. Assumes nothing.
-use mathlib.Core.Path.{_≡_, refl, subst}
+use mathlib.Core.Path.{_≡_, refl}
+use mathlib.Core.Logic.{inl, inr}
 use mathlib.Core.Bool.{Bool, true, false, cond, not}
 use mathlib.Core.List.{List}
 use Prim.Native.Nat.{ℕ, _<_, _≤_}
@@ -16,6 +17,8 @@ use Rattle.trace.specs.declared.Parsed.the-variants.{Record, Unknown, Cut}
 use Rattle.text.specs.Log.{tested, entry, answerAt}
 use Rattle.text.specs.declared.log.Entry.{Entry}
 use Rattle.text.specs.declared.log.Entry.the-variants as log
+use Rattle.show.specs.Run.{OfAnswer, OfRecord, OfBytes}
+use Rattle.show.specs.declared.item.Step.the-variants.{More}
 
 -- Either case of a test, of what it shows.
 by-test : {A : Type 0} (P : A → Type 0) (b : Bool) (x y : A) → (b ≡ true → P x) → P y → P (cond b x y)
@@ -39,8 +42,13 @@ short-answer t =
     (by-test (ShortAnswer t) (ltb 4 (a .refusal)) _ _ (λ _. tt)
     (by-test (ShortAnswer t) (not (eqb (bitAnd (a .levels) (a .mask)) (a .levels))) _ _ (λ _. tt) tt)))
 
-pub cut-answer : (t : List ℕ) → entry t ≡ log.Cut → length t < 10
-cut-answer t is = subst (ShortAnswer t) is (short-answer t)
+waits-answer : (t : List ℕ) (e : Entry) → OfAnswer e More → ShortAnswer t e → length t < 10
+waits-answer t (log.Whole a) (inl h) s = let z : _≡_ {A = ℕ} 0 1 = cc in omega arith
+waits-answer t (log.Whole a) (inr h) s = let z : _≡_ {A = ℕ} 0 1 = cc in omega arith
+waits-answer t log.NoAnswer h s = let z : _≡_ {A = ℕ} 0 1 = cc in omega arith
+waits-answer t log.NoRefusal h s = let z : _≡_ {A = ℕ} 0 1 = cc in omega arith
+waits-answer t log.NotDriven h s = let z : _≡_ {A = ℕ} 0 1 = cc in omega arith
+waits-answer t log.Cut h s = s
 
 -- ---- records
 
@@ -60,5 +68,13 @@ short-record t =
     (by-test (ShortRecord t) (eqb (byteAt t 0) 3) _ _ (λ _. short-whole t 4 _ (omega arith))
     (by-test (ShortRecord t) (eqb (byteAt t 0) 4) _ _ (λ _. short-whole t 8 _ (omega arith)) tt))))
 
-pub cut-record : (t : List ℕ) → parsed t ≡ Cut → length t < 10
-cut-record t is = subst (ShortRecord t) is (short-record t)
+waits-record : (t : List ℕ) (p : Parsed) → OfRecord p More → ShortRecord t p → length t < 10
+waits-record t (Record e n) (inl h) s = let z : _≡_ {A = ℕ} 0 1 = cc in omega arith
+waits-record t (Record e n) (inr h) s = let z : _≡_ {A = ℕ} 0 1 = cc in omega arith
+waits-record t Unknown h s = let z : _≡_ {A = ℕ} 0 1 = cc in omega arith
+waits-record t Cut h s = s
+
+-- Only fewer than ten bytes wait for more.
+pub fewer : (traces : Bool) (t : List ℕ) → OfBytes traces t More → length t < 10
+fewer true t h = waits-record t (parsed t) h (short-record t)
+fewer false t h = waits-answer t (entry t) h (short-answer t)

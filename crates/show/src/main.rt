@@ -1,6 +1,7 @@
 // Shows a log, or with --trace a trace, as text, a line an answer or record: from a file or from standard input, of any length.
 use libc::STDIN_FILENO;
 
+mod item;
 mod run;
 mod say;
 

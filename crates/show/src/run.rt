@@ -1,28 +1,9 @@
 // Answers or records shown one after the other, however the input comes in: byte by byte they are collected until one is whole.
-ghost use Prim.Native.Nat.{_≤_};
-ghost use lib.ListN.{length};
-ghost use Rattle.show.specs.Run.{Ready, Waits};
-use libc::STDOUT_FILENO;
-use text::line::Line;
-use text::log::Entry;
-use trace::Parsed;
-
-// What is wrong with an answer or a record.
-pub enum Fault {
-    NoAnswer,
-    NoRefusal,
-    NotDriven,
-    UnknownKind,
-    Cut,
-}
-
-// What becomes of the bytes of an answer or record that are there.
-enum Step {
-    Shown,
-    More,
-    Bad(Fault),
-    NotWritten,
-}
+ghost use mathlib.Core.Path.{_≡_};
+ghost use Rattle.show.specs.Run.{oneMore, past, Takes, Ready};
+use crate::item::Fault;
+use crate::item::Step;
+use crate::item::show_bytes;
 
 pub enum Next {
     More,
@@ -47,62 +28,10 @@ pub struct Turned {
 }
 
 // A count that stays at the largest number.
-fn one_more(n: u64) -> u64 {
+fn one_more(n: u64) -> u64
+    ensures { λ r. ⌜ r ≡ oneMore n ⌝ }
+{
     if n < u64::MAX { n + 1 } else { n }
-}
-
-fn write_line(line: Line) -> bool
-    requires { ⌜ line .length ≤ length (line .bytes) ⌝ }
-{
-    let n = line.length;
-    let bytes = line.bytes;
-    io::write_all(STDOUT_FILENO, &bytes[..n])
-}
-
-fn show_answer(number: u64, bytes: &[u8]) -> Step
-    ensures { λ r. ⌜ Waits r (length (now (bytes .entry))) ⌝ }
-{
-    let e = text::log::parse_answer(bytes);
-    match e {
-        Entry::Whole(a) => {
-            if write_line(text::answer::answer_line(number, a)) {
-                Step::Shown
-            } else {
-                Step::NotWritten
-            }
-        }
-        Entry::NoAnswer => Step::Bad(Fault::NoAnswer),
-        Entry::NoRefusal => Step::Bad(Fault::NoRefusal),
-        Entry::NotDriven => Step::Bad(Fault::NotDriven),
-        Entry::Cut => Step::More,
-    }
-}
-
-fn show_record(number: u64, bytes: &[u8]) -> Step
-    ensures { λ r. ⌜ Waits r (length (now (bytes .entry))) ⌝ }
-{
-    let p = trace::parse(bytes);
-    match p {
-        Parsed::Record(e, _) => {
-            if write_line(text::record::record_line(number, e)) {
-                Step::Shown
-            } else {
-                Step::NotWritten
-            }
-        }
-        Parsed::Unknown => Step::Bad(Fault::UnknownKind),
-        Parsed::Cut => Step::More,
-    }
-}
-
-fn show_bytes(traces: bool, number: u64, bytes: &[u8]) -> Step
-    ensures { λ r. ⌜ Waits r (length (now (bytes .entry))) ⌝ }
-{
-    if traces {
-        show_record(number, bytes)
-    } else {
-        show_answer(number, bytes)
-    }
 }
 
 impl Run {
@@ -120,8 +49,7 @@ impl Run {
 
     // Past an answer or record.
     fn past(mut self) -> Run
-        requires { ⌜ Ready self ⌝ }
-        ensures { λ r. ⌜ Ready r ⌝ }
+        ensures { λ r. ⌜ r ≡ past self ⌝ }
     {
         self.have = 0;
         self.number = one_more(self.number);
@@ -131,9 +59,10 @@ impl Run {
 }
 
 // One byte more.
+// Ruled out: a byte dropped; a wrong number or place; an answer or record that is not whole taken for bad.
 fn take(traces: bool, run: Run, b: u8) -> Turned
     requires { ⌜ Ready run ⌝ }
-    ensures { λ r. ⌜ Ready (r .run) ⌝ }
+    ensures { λ r. ⌜ Takes traces run b r × Ready (r .run) ⌝ }
 {
     let mut now = run;
     let at = now.have;

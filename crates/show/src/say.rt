@@ -1,5 +1,5 @@
 // What is said on standard error.
-use crate::run::Fault;
+use crate::item::Fault;
 use crate::run::Next;
 use crate::run::Run;
 use crate::run::Turned;

@@ -38,7 +38,8 @@ decimal-length : (digits n : ℕ) → length (decimal digits n) ≤ digits
 unfolding decimal
 decimal-length zero n = omega arith
 decimal-length (suc digits) n =
-    let before : length (cond (ltb n 10) [] (decimal digits (n / 10))) ≤ digits = either (ltb n 10) [] _ digits (omega arith) (decimal-length digits (n / 10)) in
+    let before : length (cond (ltb n 10) [] (decimal digits (n / 10))) ≤ digits =
+    either (ltb n 10) [] _ digits (omega arith) (decimal-length digits (n / 10)) in
     simp length-append (omega arith)
 
 -- ---- an answer

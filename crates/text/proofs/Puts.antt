@@ -47,7 +47,8 @@ shows-behind : (l : Line) (t : List ℕ) → length (l .bytes) ≡ room → l .l
 shows-behind l [] all fits = rw puts-none (sym (append-nil _), omega arith)
 shows-behind l (b ∷ t) all fits =
     rw (puts-first, put-stored l b (omega arith))
-    (let on : Behind (stored l b) t (puts (stored l b) t) = shows-behind (stored l b) t (length-set (l .bytes) (l .length) b ∙ all) (omega arith) in (
+    (let on : Behind (stored l b) t (puts (stored l b) t) =
+    shows-behind (stored l b) t (length-set (l .bytes) (l .length) b ∙ all) (omega arith) in (
       on .0 ∙ rw (add-one, take-suc-set (l .bytes) (l .length) b (omega arith)) (append-assoc (take (l .length) (l .bytes)) (b ∷ []) t),
       omega arith,
     ))

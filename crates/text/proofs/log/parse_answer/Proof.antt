@@ -8,12 +8,13 @@ returns c = simp (lt-ltb _ _ (c .if1 .taken))
 
 returns-2 : tie.Need-returns-2
 returns-2 c =
+    let long-enough = c .before .before .before .before .before .before .before .before .before .before .before .before .before .before in
     simp (
       c .tested .ensures,
       c .before .before .before .before .before .before .before .long .ensures,
       c .before .before .before .before .before .before .before .before .word2 .ensures,
       c .before .before .before .before .before .before .before .before .before .before .before .word .ensures,
-      le-ltb _ _ (c .before .before .before .before .before .before .before .before .before .before .before .before .before .before .if1 .left),
+      le-ltb _ _ (long-enough .if1 .left),
     )
 
 pub parse-answer-spec : {M : Type 1} → statement M

@@ -1,8 +1,8 @@
 use borrow.Author.Needs.{needs}
 use mathlib.Core.Path.{sym}
 use lib.Seq.{length-take-le}
-use Rattle.show.proofs.run.write_line.Statement.{statement}
-use Rattle.show.proofs.run.write_line.Tie as tie
+use Rattle.show.proofs.item.write_line.Statement.{statement}
+use Rattle.show.proofs.item.write_line.Tie as tie
 
 slice-aggregate-write-all : tie.Need-slice-aggregate-write-all
 slice-aggregate-write-all c = sym (length-take-le _ _ (search needs))

@@ -1,0 +1,34 @@
+use mathlib.Core.Path.{refl}
+use mathlib.Core.Logic.{inl, inr}
+use borrow.Author.Needs.{needs}
+use Rattle.show.proofs.item.show_record.Statement.{statement}
+use Rattle.show.proofs.item.show_record.Tie as tie
+
+returns : tie.Need-returns
+returns c =
+    rw (← c .before .before .before .before .before .before .parse .ensures, c .before .before .before .before .p .given .1) (inl refl)
+
+returns-2 : tie.Need-returns-2
+returns-2 c =
+    rw (← c .before .before .before .before .before .before .parse .ensures, c .before .before .before .before .p .given .1) (inr refl)
+
+returns-3 : tie.Need-returns-3
+returns-3 c = rw (← c .before .before .parse .ensures, c .enum-told .given .1) (refl)
+
+returns-4 : tie.Need-returns-4
+returns-4 c = rw (← c .before .before .parse .ensures, c .enum-told2 .given .1) (refl)
+
+pub show-record-spec : {M : Type 1} → statement M
+show-record-spec =
+    tie.close
+    (tie.spec
+    (λ c κs. search needs)
+    (λ c. search needs)
+    (λ c κs. search needs)
+    (λ c κs. search needs)
+    (λ c. search needs)
+    (λ c. search needs)
+    returns
+    returns-2
+    returns-3
+    returns-4)

@@ -1,0 +1,82 @@
+// What becomes of the bytes of an answer or record that are there: its line is written, they wait for more, or something is wrong.
+ghost use Prim.Native.Nat.{_≤_};
+ghost use lib.ListN.{length};
+ghost use Rattle.trace.specs.Trace.{parsed};
+ghost use Rattle.text.specs.Log.{entry};
+ghost use Rattle.show.specs.Run.{OfAnswer, OfRecord, OfBytes};
+use libc::STDOUT_FILENO;
+use text::line::Line;
+use text::log::Entry;
+use trace::Parsed;
+
+// What is wrong with an answer or a record.
+pub enum Fault {
+    NoAnswer,
+    NoRefusal,
+    NotDriven,
+    UnknownKind,
+    Cut,
+}
+
+// What becomes of the bytes of an answer or record that are there.
+pub enum Step {
+    Shown,
+    More,
+    Bad(Fault),
+    NotWritten,
+}
+
+fn write_line(line: Line) -> bool
+    requires { ⌜ line .length ≤ length (line .bytes) ⌝ }
+{
+    let n = line.length;
+    let bytes = line.bytes;
+    io::write_all(STDOUT_FILENO, &bytes[..n])
+}
+
+fn show_answer(number: u64, bytes: &[u8]) -> Step
+    ensures { λ r. ⌜ OfAnswer (entry (now (bytes .entry))) r ⌝ }
+{
+    let e = text::log::parse_answer(bytes);
+    match e {
+        Entry::Whole(a) => {
+            if write_line(text::answer::answer_line(number, a)) {
+                Step::Shown
+            } else {
+                Step::NotWritten
+            }
+        }
+        Entry::NoAnswer => Step::Bad(Fault::NoAnswer),
+        Entry::NoRefusal => Step::Bad(Fault::NoRefusal),
+        Entry::NotDriven => Step::Bad(Fault::NotDriven),
+        Entry::Cut => Step::More,
+    }
+}
+
+fn show_record(number: u64, bytes: &[u8]) -> Step
+    ensures { λ r. ⌜ OfRecord (parsed (now (bytes .entry))) r ⌝ }
+{
+    let p = trace::parse(bytes);
+    match p {
+        Parsed::Record(e, _) => {
+            if write_line(text::record::record_line(number, e)) {
+                Step::Shown
+            } else {
+                Step::NotWritten
+            }
+        }
+        Parsed::Unknown => Step::Bad(Fault::UnknownKind),
+        Parsed::Cut => Step::More,
+    }
+}
+
+// Ruled out: a cut answer taken for bad; an unknown kind that waits for more.
+pub fn show_bytes(traces: bool, number: u64, bytes: &[u8]) -> Step
+    ensures { λ r. ⌜ OfBytes traces (now (bytes .entry)) r ⌝ }
+{
+    if traces {
+        show_record(number, bytes)
+    } else {
+        show_answer(number, bytes)
+    }
+}
