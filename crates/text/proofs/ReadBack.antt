@@ -11,7 +11,7 @@ use borrow.Author.Tests.{le-ltb, eq-eqb}
 use Rattle.qsm.specs.declared.event.Answer.{Answer}
 use Rattle.trace.specs.Trace.{answerBytes}
 use Rattle.text.specs.Log.{entry}
-use Rattle.text.specs.Laws.{ReadBack}
+use Rattle.text.specs.Laws.{BytesGiveBack}
 
 -- The low word of a number from its bytes, and the whole number from those of both words.
 low-word : (v : ℕ) → v / 256 % 256 * 256 + v % 256 ≡ v % 65536
@@ -24,7 +24,7 @@ four-bytes v h =
     let high : v / 16777216 ≡ v / 65536 / 256 = sym (div-div-eq-div-mul v 65536 256) in
     rw (high, low-word (v / 65536), low-word v) (omega arith)
 
-pub read-back : ReadBack
-read-back a t small few driven =
+pub bytes-give-back : BytesGiveBack
+bytes-give-back a t small few driven =
     let long : 10 ≤ length (answerBytes a ++ t) = simp length-append (omega arith) in
     rw (le-ltb (length (answerBytes a ++ t)) 10 long, le-ltb 4 (a .refusal) few, eq-eqb _ _ driven, four-bytes (a .value) small)

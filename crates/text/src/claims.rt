@@ -1,9 +1,9 @@
-// What is shown of reading a log.
-ghost use Rattle.text.specs.Laws.{ReadBack};
+// What is shown of the texts.
+ghost use Rattle.text.specs.Laws.{GivenBack};
 
-// Nothing to compute: the contract is the law, so that it can't be left out unnoticed.
-fn read_back() -> bool
-    ensures { λ r. ⌜ ReadBack ⌝ }
+// Nothing to compute: the contract is the record of the laws, so that none of them can be left out unnoticed.
+fn given_back() -> bool
+    ensures { λ r. ⌜ GivenBack ⌝ }
 {
     true
 }
