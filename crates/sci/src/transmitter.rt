@@ -1,8 +1,9 @@
 // The transmitter: one sample at a time, with the flags that it raises.
 ghost use mathlib.Core.Path.{_≡_};
-ghost use Rattle.sci.specs.Control.{bitsOf};
+ghost use mathlib.Core.Bool.{cond};
+ghost use Rattle.sci.specs.Control.{bitsOf, M, PE, PT};
 ghost use Rattle.sci.specs.Plain.{turns, shifted};
-ghost use Rattle.sci.specs.Transmitter.{runs, level, withParity, dataSent, frameBits, preambleBits, newLeft, newShift, passed, ends, free, beginsPreamble, beginsFrame, sent};
+ghost use Rattle.sci.specs.Transmitter.{runs, level, withParity, dataSent, frameBits, preambleBits, newLeft, passed, ends, free, beginsPreamble, beginsFrame, sent};
 use crate::bits::parity_bit;
 use crate::control;
 use crate::flags::Flags;
@@ -45,10 +46,14 @@ fn with_parity(m: bool, pt: bool, w: u16) -> u16
 }
 
 // The data bits as they are sent.
-fn data_sent(m: bool, pe: bool, pt: bool, w: u16) -> u16
-    ensures { λ r. ⌜ r ≡ dataSent (bitsOf m) pe pt w ⌝ }
+fn data_sent(sccr1: u16, w: u16) -> u16
+    ensures { λ r. ⌜ r ≡ dataSent (bitsOf (M sccr1)) (PE sccr1) (PT sccr1) w ⌝ }
 {
-    if pe { with_parity(m, pt, w) } else { w }
+    if control::pe(sccr1) {
+        with_parity(control::m(sccr1), control::pt(sccr1), w)
+    } else {
+        w
+    }
 }
 
 // A frame: start bit, data bits, stop bit, low bit first.
@@ -86,14 +91,21 @@ fn passed(over: bool, shift: u16) -> u16
     if over { shift / 2 } else { shift }
 }
 
-fn new_shift(preamble: bool, frame: bool, ones: u16, bits: u16, rest: u16) -> u16
-    ensures { λ r. ⌜ r ≡ newShift preamble frame ones bits rest ⌝ }
+// The bits of the data w, where a frame begins.
+fn framed(frame: bool, sccr1: u16, w: u16, rest: u16) -> u16
+    ensures { λ r. ⌜ r ≡ cond frame (frameBits (bitsOf (M sccr1)) (dataSent (bitsOf (M sccr1)) (PE sccr1) (PT sccr1) w)) rest ⌝ }
 {
-    if preamble {
-        ones
+    if frame {
+        frame_bits(control::m(sccr1), data_sent(sccr1, w))
     } else {
-        if frame { bits } else { rest }
+        rest
     }
+}
+
+fn new_shift(preamble: bool, m: bool, bits: u16) -> u16
+    ensures { λ r. ⌜ r ≡ cond preamble (preambleBits (bitsOf m)) bits ⌝ }
+{
+    if preamble { preamble_bits(m) } else { bits }
 }
 
 impl Transmitter {
@@ -140,7 +152,6 @@ impl Transmitter {
         let free = control::te(sccr1) & (self.left <= 1);
         let preamble = free & self.preamble;
         let frame = free & !self.preamble & !empty;
-        let data = data_sent(m, control::pe(sccr1), control::pt(sccr1), self.scdr);
         let left = new_left(preamble | frame, m, self.left);
         let rest = passed(left % 16 == 0, self.shift);
         let ended = s.raise_if((self.left == 1) & empty, Flags::TC);
@@ -148,7 +159,7 @@ impl Transmitter {
             transmitter: Transmitter {
                 scdr: self.scdr,
                 preamble: self.preamble & !preamble,
-                shift: new_shift(preamble, frame, preamble_bits(m), frame_bits(m, data), rest),
+                shift: new_shift(preamble, m, framed(frame, sccr1, self.scdr, rest)),
                 left,
             },
             status: ended.raise_if(frame, Flags::TDRE),
