@@ -13,8 +13,8 @@ use Rattle.sci.specs.Wire.{Wired, steps, step, Unchanged, hearing}
 use Rattle.sci.specs.Wire as wire
 use Rattle.sci.specs.declared.serial.Sci.{Sci}
 use Rattle.sci.proofs.Settings.{same-bits}
-use Rattle.sci.proofs.Timing.{Registers, clock-registers, access-registers}
-use Rattle.sci.proofs.Wires.{frame-drives}
+use Rattle.sci.proofs.Registers.{Registers, clock-registers, access-registers}
+use Rattle.sci.proofs.StopBit.{frame-drives}
 use Rattle.sci.proofs.Wires as half
 use Rattle.claims.specs.Demand2.{Two, halves, line, clock, play, clocksIn, Word, begun, ended, period, width, Begins, Sends, Received, Arrives, AllSent, AllRead, AllReceived, ArriveInTurn, Demand2}
 use Rattle.claims.proofs.Pin.{line-driven, line-rests, pin-shows}

@@ -24,6 +24,7 @@ use Rattle.qsm.specs.declared.event.Event.the-variants as event
 use Rattle.claims.specs.History.{after, receiverRead, breaks}
 use Rattle.claims.proofs.Words.{wordSteps, storeSteps}
 use Rattle.claims.proofs.Follows as follow
+use Rattle.claims.proofs.Unbroken.{event-unbroken}
 
 abbrev pub given : Step → List Access
 given reset = []
@@ -120,7 +121,7 @@ makes a m = allGiven (follow.steps (event.Access a) m)
 pub access-half : (a : bus.Access) (m : Module) → breaks (event.Access a) m ≡ false →
     accessedAll (makes a m) (m .sci) ≡ after (event.Access a) m .sci
 access-half a m h =
-    given-steps (follow.steps (event.Access a) m) (m .sci) (event-accesses a m) (follow.event-unbroken (event.Access a) m h)
+    given-steps (follow.steps (event.Access a) m) (m .sci) (event-accesses a m) (event-unbroken (event.Access a) m h)
     ∙ sym (follow.follows (event.Access a) m)
 
 -- None of them reconfigures.

@@ -1,6 +1,10 @@
 pub mod Words
 pub mod Rise
+pub mod Tested
 pub mod Follows
+pub mod Told
+pub mod Unbroken
+pub mod Rises
 pub mod Shown
 pub mod Touches
 pub mod Lifted

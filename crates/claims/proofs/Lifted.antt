@@ -25,7 +25,10 @@ use Rattle.qsm.specs.declared.event.Event.the-variants as event
 use Rattle.claims.specs.History.{after, run, Unbroken, eventOps, ops, eventSeen, watched, eventMarks, log}
 use Rattle.claims.specs.Demand3.{Off, Compared, Recovered, Afresh, Stepped, Demand3}
 use Rattle.claims.proofs.Rise.{on, Rise, off-append}
-use Rattle.claims.proofs.Follows.{steps, follows, event-ops, event-seen, event-marks, event-unbroken, event-off, event-rise}
+use Rattle.claims.proofs.Follows.{steps, follows}
+use Rattle.claims.proofs.Told.{event-ops, event-seen, event-marks}
+use Rattle.claims.proofs.Unbroken.{event-unbroken}
+use Rattle.claims.proofs.Rises.{event-off, event-rise}
 use Rattle.claims.proofs.Touches.{reads-alike}
 use Rattle.claims.proofs.Shown.{shows-none, status-steps}
 

@@ -26,7 +26,8 @@ use Rattle.qsm.specs.declared.event.Done.{Done}
 use Rattle.qsm.specs.declared.event.Access.the-variants.{Read}
 use Rattle.qsm.specs.declared.event.Event.the-variants as event
 use Rattle.claims.specs.Demand3.{byteAt, ShowsNone}
-use Rattle.claims.proofs.Follows.{gate-shaped, steps, and-left, and-right, and-true}
+use Rattle.claims.proofs.Tested.{gate-shaped}
+use Rattle.claims.proofs.Follows.{steps, and-left, and-right, and-true}
 
 abbrev statusBits : Module → ℕ
 statusBits m = m .sci .status .flags .bits

@@ -8,7 +8,7 @@ use Rattle.sci.specs.Control.{TE, frameSamples}
 use Rattle.sci.specs.Serial.{txdDriven, txd}
 use Rattle.sci.specs.Wire.{Wired, steps, step}
 use Rattle.sci.specs.Wire as wire
-use Rattle.sci.proofs.Wires.{frame-drives, stop-bit-rests}
+use Rattle.sci.proofs.StopBit.{frame-drives, stop-bit-rests}
 use Rattle.claims.specs.Demand2.{Two, halves, line, Tick, Moment, clock, next, play, clocksIn, Unbroken, period, width, Begins, StopBit, StopBitRests}
 use Rattle.claims.proofs.Pin.{line-driven, line-rests}
 use Rattle.claims.proofs.Joined.{Plain, project, clock-halves, project-steps, project-clocks, Drives, drives-plain, rests-project, unbroken-append, plain-first, plain-second, clocks-append, play-append}

@@ -21,7 +21,8 @@ use Rattle.sci.proofs.Flagged.{isSet, has-flag}
 use Rattle.sci.proofs.Heard.{at-end, bitAt}
 use Rattle.sci.proofs.Sending.{stretched-at}
 use Rattle.sci.proofs.Samples.{stays-awake, count-up, not-reached, entered-word, entered-flags, idles}
-use Rattle.sci.proofs.Going.{lineOf, after-ones, Clean, free, Going, Counting}
+use Rattle.sci.proofs.Stages.{Clean, free}
+use Rattle.sci.proofs.Going.{lineOf, after-ones, Going, Counting}
 
 pub no-error : (s : Status) → Clean s → NoError s
 no-error s h =

@@ -16,7 +16,8 @@ use Rattle.sci.specs.declared.receiver.Receiver.{Receiver}
 use Rattle.sci.specs.declared.serial.Sci.{Sci}
 use Rattle.sci.proofs.Linked.{frames-heard, frames-shown, frames-begin, parity-always, linked}
 use Rattle.sci.proofs.Train.{back-to-back}
-use Rattle.sci.proofs.Wires.{arrives, arrive-in-turn, stop-bit-rests, frame-drives}
+use Rattle.sci.proofs.Wires.{arrives, arrive-in-turn}
+use Rattle.sci.proofs.StopBit.{stop-bit-rests, frame-drives}
 
 -- SCBR 1, M=0. The sender with TE set and the word 55 (hexadecimal) waiting, at its prescaler's last count; the receiver with RE set, after three ones.
 abbrev quiet : Status

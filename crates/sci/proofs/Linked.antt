@@ -24,7 +24,8 @@ use Rattle.sci.specs.declared.transmitter.Transmitter.{Transmitter}
 use Rattle.sci.proofs.Flagged.{has-flag}
 use Rattle.sci.proofs.Heard.{at, at-end, stretched-length}
 use Rattle.sci.proofs.Sending.{Sending, shows, keeps-sending, begins-sending, parity-right, sent-fits, low-length, value-low}
-use Rattle.sci.proofs.Going.{Clean, Rested, start, Stage, free, stages, Rdrf, Going, going, Counting, counting}
+use Rattle.sci.proofs.Stages.{Clean, Stage, free, stages, Rdrf}
+use Rattle.sci.proofs.Going.{Rested, start, Going, going, Counting, counting}
 use Rattle.sci.proofs.Arriving.{stop-level, delivered, idle-again}
 
 pub frames-heard : FramesHeard

@@ -17,7 +17,8 @@ use Rattle.sci.specs.BackToBack.{Turn, sentAll, levelsOf, samplesIn, Beg
 use Rattle.sci.specs.declared.receiver.Received.{Received}
 use Rattle.sci.specs.declared.transmitter.Transmitter.{Transmitter}
 use Rattle.sci.proofs.Sending.{low-length, value-low}
-use Rattle.sci.proofs.Going.{lineOf, Stage, waiting, seen, free, stages, Rested, start, Going, going}
+use Rattle.sci.proofs.Stages.{Stage, waiting, seen, free, stages}
+use Rattle.sci.proofs.Going.{lineOf, Rested, start, Going, going}
 use Rattle.sci.proofs.Arriving.{stop-level, delivered, still-clean, searches-again, ones-again, awake-again}
 use Rattle.sci.proofs.Linked.{levels-length, frames-shown, frames-begin, same-M, same-PE, same-PT, parity-link, ready-rested, stages-free}
 
