@@ -5,6 +5,8 @@ pub mod Mosi
 pub mod Word
 pub mod Delay
 pub mod Order
+pub mod Still
+pub mod Sooner
 pub mod Marked
 pub mod Lines
 pub mod Begun

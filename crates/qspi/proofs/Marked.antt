@@ -12,7 +12,8 @@ use Rattle.qspi.specs.Marked.{setUp, plain, around, longest, K7, K8, K9,
 use Rattle.qspi.proofs.Bounds.{bits-small, pre-small, delay-small}
 use Rattle.qspi.proofs.Edges.{edges-fall}
 use Rattle.qspi.proofs.Delay.{in-delay, next-starts}
-use Rattle.qspi.proofs.Order.{entries-run, last-of-queue, not-sooner}
+use Rattle.qspi.proofs.Order.{entries-run, last-of-queue}
+use Rattle.qspi.proofs.Sooner.{not-sooner}
 
 plain-starts : Starting plain
 unfolding setUp reset writeSpcr1

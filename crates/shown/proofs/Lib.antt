@@ -3,4 +3,6 @@ pub mod Tests
 pub mod Bytes
 pub mod Words
 pub mod Order
+pub mod Accesses
+pub mod Records
 pub mod Demand1

@@ -5,7 +5,8 @@ use Rattle.qspi.proofs.Lines.{sck-turns, sck-rests, pcs-show, pcs-delay
 use Rattle.qspi.proofs.Mosi.{mosi-shows, mosi-holds}
 use Rattle.qspi.proofs.Word.{word-stored, unused-zero, bits-in-order}
 use Rattle.qspi.proofs.Delay.{delay-runs, next-starts, halt-comes, halt-holds, halt-releases, queue-ends}
-use Rattle.qspi.proofs.Order.{entries-run, queue-wraps, last-of-queue, not-sooner}
+use Rattle.qspi.proofs.Order.{entries-run, queue-wraps, last-of-queue}
+use Rattle.qspi.proofs.Sooner.{not-sooner}
 use Rattle.qspi.proofs.Marked.{k7, k8, k9, k10}
 
 returns : tie.Need-returns
