@@ -1,9 +1,0 @@
-use Rattle.claims.proofs.demand2.Statement.{statement}
-use Rattle.claims.proofs.demand2.Tie as tie
-use Rattle.claims.proofs.Arriving.{demand2}
-
-returns : tie.Need-returns
-returns c = demand2
-
-pub demand2-spec : {M : Type 1} → statement M
-demand2-spec = tie.close (tie.spec returns)

@@ -1,9 +1,0 @@
-use Rattle.claims.proofs.hosted.Statement.{statement}
-use Rattle.claims.proofs.hosted.Tie as tie
-use Rattle.claims.proofs.Keeping as keeping
-
-returns : tie.Need-returns
-returns c = keeping.hosted
-
-pub hosted-spec : {M : Type 1} → statement M
-hosted-spec = tie.close (tie.spec returns)

@@ -1,0 +1,30 @@
+// The users' demands as claims about lists of the module's events, each held by a contract.
+ghost use Rattle.histories.specs.Demand2.{Demand2};
+ghost use Rattle.histories.specs.Demand3.{Demand3};
+ghost use Rattle.histories.specs.Host.{Hosted};
+ghost use Rattle.histories.specs.Witness.{Met};
+
+// Demand 2, of any two modules of one rate and one set of settings: what the one sends on pin 7 arrives in the other, word for word.
+// Ruled out: a frame whose bits or stop bit the receiver misses at some count of the prescalers; a word lost or marred between frames
+// that are read in time; a pin 7 that doesn't show TXD.
+pub fn demand2() -> bool
+    ensures { λ r. ⌜ Demand2 ⌝ }
+{
+    true
+}
+
+// Demand 3, of every list of events on a module fresh from reset; and lists that meet its hypotheses and then deliver a word.
+// Ruled out: a receiver that keeps a trace of its past; one that delivers past an unseen loss; a claim that nothing can meet.
+pub fn demand3() -> bool
+    ensures { λ r. ⌜ Demand3 × Met ⌝ }
+{
+    true
+}
+
+// Of what a host does with the module that it keeps: its calls in a row give what the fold of the step gives.
+// Ruled out: an entry whose module is not the next call's; an answer of an earlier step.
+pub fn hosted() -> bool
+    ensures { λ r. ⌜ Hosted ⌝ }
+{
+    true
+}

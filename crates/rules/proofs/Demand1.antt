@@ -1,0 +1,23 @@
+-- Demand 1, whole. Assumes nothing.
+use Rattle.trace.proofs.Laws.{ten-bytes-each, earlier-stand}
+use Rattle.rules.specs.Demand1.{Demand1}
+use Rattle.rules.proofs.Accesses.{refusal1, refusal2, privilege, refusal3, refusal4, unchanged, answers}
+use Rattle.rules.proofs.Records.{refusal5, refusal6, refusal7, ends}
+
+pub demand1 : Demand1
+demand1 =
+    record {
+      refusal1 = refusal1;
+      refusal2 = refusal2;
+      privilege = privilege;
+      refusal3 = refusal3;
+      refusal4 = refusal4;
+      unchanged = unchanged;
+      answered = answers;
+      refusal5 = refusal5;
+      refusal6 = refusal6;
+      refusal7 = refusal7;
+      ends = ends;
+      earlier-stand = earlier-stand;
+      ten-bytes-each = ten-bytes-each;
+    }

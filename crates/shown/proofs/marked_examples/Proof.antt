@@ -1,9 +1,0 @@
-use Rattle.shown.proofs.marked_examples.Statement.{statement}
-use Rattle.shown.proofs.marked_examples.Tie as tie
-use Rattle.shown.proofs.Marked.{marked}
-
-returns : tie.Need-returns
-returns c = marked
-
-pub marked-examples-spec : {M : Type 1} → statement M
-marked-examples-spec = tie.close (tie.spec returns)

@@ -1,9 +1,0 @@
-use Rattle.shown.proofs.refusals.Statement.{statement}
-use Rattle.shown.proofs.refusals.Tie as tie
-use Rattle.shown.proofs.Demand1.{demand1}
-
-returns : tie.Need-returns
-returns c = demand1
-
-pub refusals-spec : {M : Type 1} → statement M
-refusals-spec = tie.close (tie.spec returns)
