@@ -1,6 +1,6 @@
 -- Document 01: the serial half as one state. Its registers after a reset, the prescaler, the accesses, TXD and the request.
 use mathlib.Core.Bool.{Bool, true, false, cond, not, _&&_, _||_}
-use Prim.Native.Nat.{ℕ, _+_, _*_, _%_, min}
+use Prim.Native.Nat.{ℕ, _+_, _*_, _%_, _^_, min}
 use lib.Dec.{eqb, leb}
 use Rattle.steps.specs.Bits.{merge}
 use Rattle.sci.specs.Flags.{OR, IDLE, RAF, RDRF, TC, TDRE, flag, receiveFlags, transmitFlags}
@@ -99,6 +99,14 @@ clocked s x = cond (active s) (prescaled (due s) s x) s
 -- SCCR1 as it is read, RWU with it.
 abbrev pub sccr1Word : Sci → ℕ
 sccr1Word s = cond (s .receiver .asleep) (sccr1Bits (s .sccr1) + 2) (sccr1Bits (s .sccr1))
+
+-- SCSR as it is read: its nine flags.
+abbrev pub scsrWord : Sci → ℕ
+scsrWord s = s .status .flags .bits % 2 ^ 9
+
+-- SCDR as it is read: the receiver's side, nine bits.
+abbrev pub scdrWord : Sci → ℕ
+scdrWord s = s .receiver .scdr % 2 ^ 9
 
 abbrev pub withStatus : Sci → Status → Sci
 withStatus s f =

@@ -1,4 +1,6 @@
 // Claims about the definitions, each held by a contract.
+ghost use mathlib.Core.Path.{_≡_};
+ghost use mathlib.Core.Bool.{true};
 ghost use Rattle.sci.specs.declared.flags.Flags.{Flags};
 ghost use Rattle.sci.specs.Members.{Membership};
 ghost use Rattle.sci.specs.Resync.{Resynchronised};
@@ -8,7 +10,7 @@ ghost use Rattle.sci.specs.Witness.{Met};
 
 // The laws of membership of the flag set.
 fn membership() -> bool
-    ensures { λ r. ⌜ ((a b : Flags) → Membership a b) ⌝ }
+    ensures { λ r. ⌜ (r ≡ true) × ((a b : Flags) → Membership a b) ⌝ }
 {
     true
 }
@@ -16,7 +18,7 @@ fn membership() -> bool
 // Demand 2, of the transmitter and the receiver, sample by sample and clock by clock.
 // Ruled out: bits sent highest first; a parity bit that the receiver finds wrong.
 fn demand2() -> bool
-    ensures { λ r. ⌜ Demand2 ⌝ }
+    ensures { λ r. ⌜ (r ≡ true) × Demand2 ⌝ }
 {
     true
 }
@@ -24,7 +26,7 @@ fn demand2() -> bool
 // Demand 3, of the receiver and of every history of the serial half; and histories that meet its hypotheses.
 // Ruled out: a receiver that keeps a trace of its past; one that delivers past an unseen loss; one that takes one frame and no more.
 fn demand3() -> bool
-    ensures { λ r. ⌜ Resynchronised × Demand3 × Met ⌝ }
+    ensures { λ r. ⌜ (r ≡ true) × Resynchronised × Demand3 × Met ⌝ }
 {
     true
 }

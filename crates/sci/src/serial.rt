@@ -1,8 +1,8 @@
 // The serial half as one state: reset, clocks, the accesses to its registers, TXD and the request.
 ghost use mathlib.Core.Path.{_≡_};
-ghost use Prim.Native.Nat.{_+_, _%_, min};
+ghost use Prim.Native.Nat.{_+_, min};
 ghost use Rattle.sci.specs.Control.{sccr0Bits};
-ghost use Rattle.sci.specs.Serial.{resetSci, active, due, sampled, counted, prescaled, clocked, sccr1Word, withStatus, statusRead, dataRead, loaded, dataWritten, withSccr0, sccr0Set, wroteSccr0, stopped, withSccr1, wroteSccr1, sccr0Guarded, sccr1Guarded, txdDriven, txd, asks};
+ghost use Rattle.sci.specs.Serial.{resetSci, active, due, sampled, counted, prescaled, clocked, sccr1Word, scsrWord, scdrWord, withStatus, statusRead, dataRead, loaded, dataWritten, withSccr0, sccr0Set, wroteSccr0, stopped, withSccr1, wroteSccr1, sccr0Guarded, sccr1Guarded, txdDriven, txd, asks};
 ghost use Rattle.sci.specs.Plain.{listened};
 use crate::control;
 use crate::flags::Flags;
@@ -143,7 +143,7 @@ impl Sci {
     // SCSR as it is read.
     // Ruled out: the marks instead of the flags; TDRE cut off.
     pub fn scsr(self) -> u16
-        ensures { λ r. ⌜ r ≡ self .status .flags .bits % 512 ⌝ }
+        ensures { λ r. ⌜ r ≡ scsrWord self ⌝ }
     {
         let status = self.status;
         let flags = status.flags;
@@ -153,7 +153,7 @@ impl Sci {
     // SCDR as it is read.
     // Ruled out: the data register of the transmitter; bit 8 cut off.
     pub fn scdr(self) -> u16
-        ensures { λ r. ⌜ r ≡ self .receiver .scdr % 512 ⌝ }
+        ensures { λ r. ⌜ r ≡ scdrWord self ⌝ }
     {
         let receiver = self.receiver;
         receiver.scdr % 512

@@ -1,3 +1,4 @@
+use mathlib.Core.Path.{refl}
 use Rattle.sci.proofs.claims.demand3.Statement.{statement}
 use Rattle.sci.proofs.claims.demand3.Tie as tie
 use Rattle.sci.proofs.Resync.{resynchronised}
@@ -5,7 +6,7 @@ use Rattle.sci.proofs.Demand3.{demand3}
 use Rattle.sci.proofs.Witness.{met}
 
 returns : tie.Need-returns
-returns c = (resynchronised, demand3, met)
+returns c = (refl, resynchronised, demand3, met)
 
 pub demand3-spec : {M : Type 1} → statement M
 demand3-spec = tie.close (tie.spec returns)
