@@ -1,5 +1,5 @@
 -- Demand 1, whole. Assumes nothing.
-use Rattle.trace.proofs.Laws.{ten-bytes-each, earlier-stand}
+use Rattle.trace.proofs.Laws.{records-read, known-and-whole, ten-bytes-each, earlier-stand}
 use Rattle.rules.specs.Demand1.{Demand1}
 use Rattle.rules.proofs.Accesses.{refusal1, refusal2, privilege, refusal3, refusal4, unchanged, answers}
 use Rattle.rules.proofs.Records.{refusal5, refusal6, refusal7, ends}
@@ -18,6 +18,8 @@ demand1 =
       refusal6 = refusal6;
       refusal7 = refusal7;
       ends = ends;
+      records-read = records-read;
+      known-and-whole = known-and-whole;
       earlier-stand = earlier-stand;
       ten-bytes-each = ten-bytes-each;
     }

@@ -16,7 +16,7 @@ use Rattle.trace.specs.declared.Parsed.{Parsed}
 use Rattle.trace.specs.declared.Parsed.the-variants.{Record, Unknown, Cut}
 use Rattle.trace.proofs.Playing.{unroll, play-none, one-on}
 use Rattle.trace.proofs.Laws.{answers-fit, resumes}
-use Rattle.rules.specs.Refusals.{unknown, cut, recordLength}
+use Rattle.trace.specs.Laws.{unknown, cut, recordLength}
 use Rattle.rules.specs.Demand1.{Refusal5, Refusal6, Refusal7, Ends, rest, left, over}
 use Rattle.rules.proofs.Tests.{absurd-bool}
 

@@ -17,8 +17,8 @@ use Rattle.qsm.specs.declared.event.Event.the-variants.{Reset, Hold}
 use Rattle.qsm.specs.declared.event.Event.the-variants as event
 use Rattle.qsm.specs.declared.event.Done.{Done}
 use Rattle.trace.specs.Play.{play}
-use Rattle.trace.specs.Laws.{unread, EarlierStand, TenBytesEach}
-use Rattle.rules.specs.Refusals.{misshapen, malformed, unmapped, unprivileged, unmodelled, guarded, unknown, cut}
+use Rattle.trace.specs.Laws.{unread, unknown, cut, RecordsRead, KnownAndWhole, EarlierStand, TenBytesEach}
+use Rattle.rules.specs.Refusals.{misshapen, malformed, unmapped, unprivileged, unmodelled, guarded}
 
 -- An access, and the refusal that it is given.
 abbrev pub read : Module → Bool → ℕ → ℕ → Done
@@ -123,8 +123,9 @@ Refusal7 =
 abbrev pub Ends : Type 0
 Ends = (m : Module) (t : List ℕ) (room : ℕ) → stops 0 m t room ≡ over (rest m t room)
 
--- The laws of a trace say the rest: after 5 to 7 the module is as after the records answered, and their answers stand; the contract of
--- `play` says that the output past them is unchanged.
+-- The laws of a trace say the rest: what was answered is the trace's beginning, and each record of it is of a known kind and whole, so that
+-- 5 and 6 are given at the first that isn't; after 5 to 7 the module is as after the records answered, and their answers stand. The contract
+-- of `play` says that the output past them is unchanged.
 pub record Demand1 : Type 0 where
   pub refusal1 : Refusal1
   pub refusal2 : Refusal2
@@ -137,5 +138,7 @@ pub record Demand1 : Type 0 where
   pub refusal6 : Refusal6
   pub refusal7 : Refusal7
   pub ends : Ends
+  pub records-read : RecordsRead
+  pub known-and-whole : KnownAndWhole
   pub earlier-stand : EarlierStand
   pub ten-bytes-each : TenBytesEach

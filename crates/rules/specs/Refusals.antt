@@ -1,9 +1,7 @@
--- Document 01, Seven refusals: the table's conditions in its own words.
+-- Document 01, Seven refusals: the table's conditions on an access in its own words. Those on a record are among the laws of a trace.
 use mathlib.Core.Bool.{Bool, true, false, cond, not, _&&_, _||_}
-use mathlib.Core.List.{List}
 use Prim.Native.Nat.{ℕ, zero, suc, _+_, _/_, _%_, _^_}
 use lib.Dec.{eqb, ltb, leb}
-use lib.ListN.{length}
 use Rattle.steps.specs.Bits.{bit, word, merge}
 use Rattle.sci.specs.Transmitter.{runs}
 use Rattle.sci.specs.declared.serial.Sci.{Sci}
@@ -12,7 +10,6 @@ use Rattle.qsm.specs.Map.{decode}
 use Rattle.qsm.specs.Word.{put}
 use Rattle.qsm.specs.Lanes.{upperLane, lowerLane}
 use Rattle.qsm.specs.declared.state.Module.{Module}
-use Rattle.trace.specs.Trace.{byteAt}
 
 -- Some byte touched, of so many from an offset on, is one of these.
 abbrev pub touches : (ℕ → Bool) → ℕ → ℕ → Bool
@@ -101,16 +98,3 @@ unmodelled = either setsUnmodelled
 -- 4: a write changes a guarded field while its half is on.
 abbrev pub guarded : Module → ℕ → ℕ → ℕ → Bool
 guarded = either changesGuarded
-
--- 5: unknown record kind.
-abbrev pub unknown : List ℕ → Bool
-unknown t = not (eqb (byteAt t 0) 1 || eqb (byteAt t 0) 2 || eqb (byteAt t 0) 3 || eqb (byteAt t 0) 4)
-
--- The kind byte and the body: 01 reset, 0; 02 hold, 4; 03 read, 3; 04 write, 7.
-abbrev pub recordLength : List ℕ → ℕ
-recordLength t =
-    cond (eqb (byteAt t 0) 1) 1 (cond (eqb (byteAt t 0) 2) 5 (cond (eqb (byteAt t 0) 3) 4 8))
-
--- 6: record cut by the end of the trace.
-abbrev pub cut : List ℕ → Bool
-cut t = ltb (length t) (recordLength t)

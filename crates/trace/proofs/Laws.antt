@@ -1,17 +1,52 @@
 -- The laws of specs/Laws, each by induction over the records. Assumes nothing.
-use mathlib.Core.Path.{_≡_, refl, sym, ap, _∙_}
+use mathlib.Core.Path.{_≡_, refl, sym, ap, subst, _∙_}
+use mathlib.Core.Bool.{Bool, true, false, cond, not, _||_}
 use mathlib.Core.List.{List, [], _∷_, _++_, append-assoc, flatten}
 use Prim.Native.Nat.{ℕ, _+_, _-_, _*_, _≤_}
 use native.Mathlib.Omega.{arith}
+use lib.Dec.{eqb, ltb}
 use lib.ListN.{length, take, drop, take-append-drop, length-append, drop-of-length-le}
 use lib.Seq.{length-take-le, take-append-le, drop-append-le, drop-drop, take-at, drop-at}
 use Rattle.qsm.specs.declared.state.Module.{Module}
 use Rattle.qsm.specs.declared.event.Event.{Event}
 use Rattle.qsm.specs.Event.{step}
-use Rattle.trace.specs.Trace.{answerLength}
+use Rattle.trace.specs.Trace.{byteAt, byKind, parsed, answerLength}
 use Rattle.trace.specs.Play.{Outcome, answered, followed, play}
-use Rattle.trace.specs.Laws.{TenBytesEach, AnswersFit, unread, RecordsRead, ReadToTheEnd, unstopped, EarlierStand, Resumes, InParts, streamed, bytesOf, Streams}
-use Rattle.trace.proofs.Playing.{play-none, one-on, followed-assoc, record-kept, record-alone, played}
+use Rattle.trace.specs.declared.Parsed.{Parsed}
+use Rattle.trace.specs.declared.Parsed.the-variants.{Record, Unknown, Cut}
+use Rattle.trace.specs.Laws.{unknown, recordLength, Each, KnownAndWhole, TenBytesEach, AnswersFit, unread, RecordsRead, ReadToTheEnd, unstopped, EarlierStand, Resumes, InParts, streamed, bytesOf, Streams}
+use Rattle.trace.proofs.Playing.{play-none, one-on, followed-assoc, record-kept, record-alone, kind-told, played}
+
+-- A record that was parsed is not of an unknown kind, and as long as its kind says.
+abbrev Known : Bool → ℕ → Parsed → Type 0
+Known other k (Record e n) = (other ≡ false) × (n ≡ k)
+Known other k Unknown = Unit {0}
+Known other k Cut = Unit {0}
+
+known : (a b c d few few′ few″ : Bool) (e f g h : Event) →
+    Known (not (a || b || c || d)) (cond a 1 (cond b 5 (cond c 4 8)))
+    (cond a (Record e 1) (cond b (cond few Cut (Record f 5)) (cond c (cond few′ Cut (Record g 4)) (cond d (cond few″ Cut (Record h 8)) Unknown))))
+known true b c d x y z e f g h = (refl, refl)
+known false true c d true y z e f g h = tt
+known false true c d false y z e f g h = (refl, refl)
+known false false true d x true z e f g h = tt
+known false false true d x false z e f g h = (refl, refl)
+known false false false true x y true e f g h = tt
+known false false false true x y false e f g h = (refl, refl)
+known false false false false x y z e f g h = tt
+
+known-by-kind : (t : List ℕ) → Known (unknown t) (recordLength t) (byKind (byteAt t 0) t)
+known-by-kind t =
+    known (eqb (byteAt t 0) 1) (eqb (byteAt t 0) 2) (eqb (byteAt t 0) 3) (eqb (byteAt t 0) 4)
+    (ltb (length t) 5) (ltb (length t) 4) (ltb (length t) 8) _ _ _ _
+
+pub known-and-whole : KnownAndWhole
+known-and-whole =
+    played (λ m t room o. Each (λ r. (unknown r ≡ false) × (length r ≡ recordLength r)) (o .records)) (λ m t room why end. tt)
+    (λ m t room e n o is pos le fits h.
+    let r = take n t in
+    let k = subst (Known (unknown r) (recordLength r)) (kind-told r r (record-alone t is)) (known-by-kind r) in
+    ((k .0, length-take-le n t le ∙ k .1), h))
 
 pub ten-bytes-each : TenBytesEach
 ten-bytes-each =

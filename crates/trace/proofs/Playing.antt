@@ -12,7 +12,7 @@ use borrow.Author.Tests.{le-ltb, ltb-false, eq-eqb, ne-eqb, eqb-true, eqb-false}
 use Rattle.qsm.specs.declared.state.Module.{Module}
 use Rattle.qsm.specs.declared.event.Event.{Event}
 use Rattle.qsm.specs.Event.{step}
-use Rattle.trace.specs.Trace.{byteAt, whole, byKind, parsed, answerLength}
+use Rattle.trace.specs.Trace.{byteAt, whole, resetKind, holdKind, readKind, writeKind, byKind, parsed, answerLength}
 use Rattle.trace.specs.Play.{Outcome, stopped, answered, followed, turn, playFor, play}
 use Rattle.trace.specs.declared.Parsed.{Parsed}
 use Rattle.trace.specs.declared.Parsed.the-variants.{Record, Unknown, Cut}
@@ -37,10 +37,10 @@ positive t h = let no : length t ≡ 0 → ⊥ = eqb-false (length t) 0 h in ome
 pub sized : (t : List ℕ) → Sized t (parsed t)
 sized t =
     sized-if t (eqb (length t) 0) _ _ (λ _. tt) (λ some.
-    sized-if t (eqb (byteAt t 0) 1) _ _ (λ _. (omega (arith, positive t some), omega (arith, positive t some))) (λ _.
-    sized-if t (eqb (byteAt t 0) 2) _ _ (λ _. sized-whole t 5 _ (omega arith)) (λ _.
-    sized-if t (eqb (byteAt t 0) 3) _ _ (λ _. sized-whole t 4 _ (omega arith)) (λ _.
-    sized-if t (eqb (byteAt t 0) 4) _ _ (λ _. sized-whole t 8 _ (omega arith)) (λ _. tt)))))
+    sized-if t (eqb (byteAt t 0) resetKind) _ _ (λ _. (omega (arith, positive t some), omega (arith, positive t some))) (λ _.
+    sized-if t (eqb (byteAt t 0) holdKind) _ _ (λ _. sized-whole t 5 _ (omega arith)) (λ _.
+    sized-if t (eqb (byteAt t 0) readKind) _ _ (λ _. sized-whole t 4 _ (omega arith)) (λ _.
+    sized-if t (eqb (byteAt t 0) writeKind) _ _ (λ _. sized-whole t 8 _ (omega arith)) (λ _. tt)))))
 
 pub record-within : (t : List ℕ) {e : Event} {n : ℕ} → parsed t ≡ Record e n → (0 < n) × (n ≤ length t)
 record-within t is = subst (Sized t) is (sized t)
@@ -117,19 +117,19 @@ module _ (s t : List ℕ) where
 
   told-kind : (kind : ℕ) → Told (byKind kind t) (byKind kind s)
   told-kind kind =
-      told-if (eqb kind 1) _ _ _ _ (λ a. refl)
-      (told-if (eqb kind 2) _ _ _ _
+      told-if (eqb kind resetKind) _ _ _ _ (λ a. refl)
+      (told-if (eqb kind holdKind) _ _ _ _
       (told-unless (ltb (length t) 5) 5 _ _
       (λ a. rw (a .0 1 (omega arith), a .0 2 (omega arith), a .0 3 (omega arith), a .0 4 (omega arith))))
-      (told-if (eqb kind 3) _ _ _ _
+      (told-if (eqb kind readKind) _ _ _ _
       (told-unless (ltb (length t) 4) 4 _ _
       (λ a. rw (a .0 1 (omega arith), a .0 2 (omega arith), a .0 3 (omega arith))))
-      (told-if (eqb kind 4) _ _ _ _
+      (told-if (eqb kind writeKind) _ _ _ _
       (told-unless (ltb (length t) 8) 8 _ _
       (λ a. rw (a .0 1 (omega arith), a .0 2 (omega arith), a .0 3 (omega arith), a .0 4 (omega arith), a .0 5 (omega arith), a .0 6 (omega arith), a .0 7 (omega arith))))
       tt)))
 
-  kind-told : {e : Event} {n : ℕ} → parsed t ≡ Record e n → byKind (byteAt t 0) t ≡ Record e n
+  pub kind-told : {e : Event} {n : ℕ} → parsed t ≡ Record e n → byKind (byteAt t 0) t ≡ Record e n
   kind-told {e} {n} is =
       let some : 0 < length t = omega (arith, record-within t is) in
       sym (otherwise (eqb (length t) 0) Cut (ne-eqb (length t) 0 (λ z. omega arith))) ∙ is

@@ -1,11 +1,37 @@
 -- Laws of playing a trace: what is read and written, what stands after a stop, and playing in parts.
 use mathlib.Core.Path.{_≡_}
+use mathlib.Core.Bool.{Bool, false, cond, not, _||_}
 use mathlib.Core.List.{List, [], _∷_, _++_, flatten}
 use Prim.Native.Nat.{ℕ, _+_, _-_, _*_, _≤_}
+use lib.Dec.{eqb, ltb}
 use lib.ListN.{length, drop}
 use Rattle.qsm.specs.declared.state.Module.{Module}
-use Rattle.trace.specs.Trace.{answerLength}
+use Rattle.trace.specs.Trace.{byteAt, answerLength}
 use Rattle.trace.specs.Play.{Outcome, stopped, followed, play}
+
+-- What a trace begins with, in the words of refusals 5 and 6. 5: unknown record kind.
+abbrev pub unknown : List ℕ → Bool
+unknown t = not (eqb (byteAt t 0) 1 || eqb (byteAt t 0) 2 || eqb (byteAt t 0) 3 || eqb (byteAt t 0) 4)
+
+-- The kind byte and the body: 01 reset, 0; 02 hold, 4; 03 read, 3; 04 write, 7.
+abbrev pub recordLength : List ℕ → ℕ
+recordLength t =
+    cond (eqb (byteAt t 0) 1) 1 (cond (eqb (byteAt t 0) 2) 5 (cond (eqb (byteAt t 0) 3) 4 8))
+
+-- 6: record cut by the end of the trace.
+abbrev pub cut : List ℕ → Bool
+cut t = ltb (length t) (recordLength t)
+
+-- Each of a list of records.
+abbrev pub Each : (List ℕ → Type 0) → List (List ℕ) → Type 0
+Each p [] = Unit {0}
+Each p (r ∷ rs) = p r × Each p rs
+
+-- Every record that was answered, wherever the trace stopped, is of a known kind and as long as its kind says.
+abbrev pub KnownAndWhole : Type 0
+KnownAndWhole =
+    (m : Module) (t : List ℕ) (room : ℕ) →
+    Each (λ r. (unknown r ≡ false) × (length r ≡ recordLength r)) (play m t room .records)
 
 -- Ten bytes are written for each record answered, whatever stopped the trace.
 abbrev pub TenBytesEach : Type 0

@@ -1,7 +1,8 @@
 -- All that is shown of playing a trace.
-use Rattle.trace.specs.Laws.{TenBytesEach, AnswersFit, RecordsRead, ReadToTheEnd, EarlierStand, Resumes, InParts, Streams}
+use Rattle.trace.specs.Laws.{KnownAndWhole, TenBytesEach, AnswersFit, RecordsRead, ReadToTheEnd, EarlierStand, Resumes, InParts, Streams}
 
 pub record Shown : Type 0 where
+  pub known-and-whole : KnownAndWhole
   pub ten-bytes-each : TenBytesEach
   pub answers-fit : AnswersFit
   pub records-read : RecordsRead

@@ -52,13 +52,26 @@ writeRecord t =
     whole t 8
     (event.Access (Write (supervisorOf (byteAt t 1)) (widthOf (byteAt t 1)) (wordAt t 2) (longAt t 4)))
 
+-- The kinds: 01 reset, 02 hold, 03 read, 04 write.
+abbrev pub resetKind : ℕ
+resetKind = 0x01
+
+abbrev pub holdKind : ℕ
+holdKind = 0x02
+
+abbrev pub readKind : ℕ
+readKind = 0x03
+
+abbrev pub writeKind : ℕ
+writeKind = 0x04
+
 -- A record by its kind; one of an unknown kind, with or without a body, is none.
 abbrev pub byKind : ℕ → List ℕ → Parsed
 byKind kind t =
-    cond (eqb kind 1) (Record Reset 1)
-    (cond (eqb kind 2) (holdRecord t)
-    (cond (eqb kind 3) (readRecord t)
-    (cond (eqb kind 4) (writeRecord t)
+    cond (eqb kind resetKind) (Record Reset 1)
+    (cond (eqb kind holdKind) (holdRecord t)
+    (cond (eqb kind readKind) (readRecord t)
+    (cond (eqb kind writeKind) (writeRecord t)
     Unknown)))
 
 -- The record at the start of t: its event and its length.

@@ -36,6 +36,15 @@ pub struct Played {
     pub stop: Stop,
 }
 
+// The kinds of a record.
+const RESET: u8 = 0x01;
+
+const HOLD: u8 = 0x02;
+
+const READ: u8 = 0x03;
+
+const WRITE: u8 = 0x04;
+
 // The bytes of an answer.
 pub const ANSWER_LENGTH: usize = 10;
 
@@ -101,16 +110,16 @@ pub fn parse(rest: &[u8]) -> Parsed
         return Parsed::Cut;
     }
     let kind = rest[0];
-    if kind == 1 {
+    if kind == RESET {
         return Parsed::Record(Event::Reset, 1);
     }
-    if kind == 2 {
+    if kind == HOLD {
         return hold(rest);
     }
-    if kind == 3 {
+    if kind == READ {
         return read(rest);
     }
-    if kind == 4 {
+    if kind == WRITE {
         return write(rest);
     }
     Parsed::Unknown

@@ -1,19 +1,23 @@
+use mathlib.Core.Path.{refl}
 use Rattle.trace.proofs.claims.shown.Statement.{statement}
 use Rattle.trace.proofs.claims.shown.Tie as tie
-use Rattle.trace.proofs.Laws.{ten-bytes-each, answers-fit, records-read, read-to-the-end, earlier-stand, resumes, in-parts, streams}
+use Rattle.trace.proofs.Laws.{known-and-whole, ten-bytes-each, answers-fit, records-read, read-to-the-end, earlier-stand, resumes, in-parts, streams}
 
 returns : tie.Need-returns
-returns c =
-    record {
-      ten-bytes-each = ten-bytes-each;
-      answers-fit = answers-fit;
-      records-read = records-read;
-      read-to-the-end = read-to-the-end;
-      earlier-stand = earlier-stand;
-      resumes = resumes;
-      in-parts = in-parts;
-      streams = streams;
-    }
+returns c = (
+  refl,
+  record {
+    known-and-whole = known-and-whole;
+    ten-bytes-each = ten-bytes-each;
+    answers-fit = answers-fit;
+    records-read = records-read;
+    read-to-the-end = read-to-the-end;
+    earlier-stand = earlier-stand;
+    resumes = resumes;
+    in-parts = in-parts;
+    streams = streams;
+  },
+)
 
 pub shown-spec : {M : Type 1} → statement M
 shown-spec = tie.close (tie.spec returns)
