@@ -1,9 +1,10 @@
+use mathlib.Core.Path.{refl}
 use Rattle.rules.proofs.marked_examples.Statement.{statement}
 use Rattle.rules.proofs.marked_examples.Tie as tie
 use Rattle.rules.proofs.Marked.{marked}
 
 returns : tie.Need-returns
-returns c = marked
+returns c = (refl, marked)
 
 pub marked-examples-spec : {M : Type 1} → statement M
 marked-examples-spec = tie.close (tie.spec returns)
