@@ -2,13 +2,14 @@
 //!
 //! [`Module`] answers resets, holds, reads and writes; [`play`] runs a recorded trace on it.
 //! `sci` and `qspi` are the two halves, `module` puts the register map, the pins and the
-//! interrupt request above them.
+//! interrupt request above them. `registers` has the offsets and bits of all three.
 
 mod access;
 mod flags;
 mod module;
 mod qspi;
 mod receiver;
+mod registers;
 mod sci;
 mod trace;
 mod transmitter;

@@ -2,30 +2,8 @@
 
 use crate::access::{Access, Half, Refusal};
 use crate::qspi::{Inputs, Qspi};
+use crate::registers::own::*;
 use crate::sci::Sci;
-
-// Word offsets.
-const QSMCR: u16 = 0x00;
-const QILR_QIVR: u16 = 0x04;
-const PORTQS: u16 = 0x14;
-const PQSPAR_DDRQS: u16 = 0x16;
-
-// QSMCR.
-const STOP: u16 = 1 << 15;
-const FRZ: u16 = 3 << 13;
-const SUPV: u16 = 1 << 7;
-const QSMCR_BITS: u16 = SUPV | 0x000F;
-
-const QILR_BITS: u8 = 0x3F;
-const PQSPAR_BITS: u8 = 0x7B;
-
-// Pins.
-const MISO: u8 = 1 << 0;
-const MOSI: u8 = 1 << 1;
-const SCK: u8 = 1 << 2;
-const PCS0: u8 = 1 << 3;
-const PCS: u8 = 0xF << 3;
-const TXD: u8 = 1 << 7;
 
 /// The answer to an event.
 #[derive(Clone, Copy, Debug, PartialEq, Eq)]

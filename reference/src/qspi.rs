@@ -2,48 +2,7 @@
 
 use crate::access::{Half, Refusal};
 use crate::flags::Flags;
-
-// Word offsets.
-const SPCR0: u16 = 0x18;
-const SPCR1: u16 = 0x1A;
-const SPCR2: u16 = 0x1C;
-const SPCR3_SPSR: u16 = 0x1E;
-
-// SPCR0.
-const MSTR: u16 = 1 << 15;
-const WOMQ: u16 = 1 << 14;
-const CPOL: u16 = 1 << 9;
-const CPHA: u16 = 1 << 8;
-const SPBR: u16 = 0x00FF;
-const SPCR0_MODELLED: u16 = !WOMQ;
-
-// SPCR1.
-const SPE: u16 = 1 << 15;
-const DTL: u16 = 0x00FF;
-
-// SPCR2.
-const SPIFIE: u16 = 1 << 15;
-const WREN: u16 = 1 << 14;
-const WRTO: u16 = 1 << 13;
-const NEWQP: u16 = 0x000F;
-const SPCR2_BITS: u16 = 0xEF0F;
-
-// SPCR3, the upper byte of its word.
-const LOOPQ: u16 = 1 << 10;
-const HMIE: u16 = 1 << 9;
-const HALT: u16 = 1 << 8;
-
-// SPSR, the lower byte of that word.
-const SPIF: u16 = 1 << 7;
-const MODF: u16 = 1 << 6;
-const HALTA: u16 = 1 << 5;
-
-// Command byte.
-const CONT: u8 = 1 << 7;
-const BITSE: u8 = 1 << 6;
-const DT: u8 = 1 << 5;
-const DSCK: u8 = 1 << 4;
-const PCS: u8 = 0x0F;
+use crate::registers::qspi::*;
 
 /// What the pins give the queue during a clock.
 #[derive(Clone, Copy, Debug)]

@@ -3,64 +3,8 @@
 use crate::access::{Half, Refusal};
 use crate::flags::Flags;
 use crate::receiver::{Frame, Heard, Receiver};
-use crate::transmitter::Transmitter;
-
-// Word offsets.
-const SCCR0: u16 = 0x08;
-const SCCR1: u16 = 0x0A;
-const SCSR: u16 = 0x0C;
-const SCDR: u16 = 0x0E;
-
-// SCCR0.
-const SCBR: u16 = 0x1FFF;
-
-// SCCR1.
-const LOOPS: u16 = 1 << 14;
-const WOMS: u16 = 1 << 13;
-const ILT: u16 = 1 << 12;
-pub const PT: u16 = 1 << 11;
-pub const PE: u16 = 1 << 10;
-const M: u16 = 1 << 9;
-const WAKE: u16 = 1 << 8;
-const TIE: u16 = 1 << 7;
-const TCIE: u16 = 1 << 6;
-const RIE: u16 = 1 << 5;
-const ILIE: u16 = 1 << 4;
-pub const TE: u16 = 1 << 3;
-const RE: u16 = 1 << 2;
-const RWU: u16 = 1 << 1;
-const SBK: u16 = 1 << 0;
-
-// SCSR.
-pub const TDRE: u16 = 1 << 8;
-pub const TC: u16 = 1 << 7;
-const RDRF: u16 = 1 << 6;
-const RAF: u16 = 1 << 5;
-const IDLE: u16 = 1 << 4;
-const OR: u16 = 1 << 3;
-const NF: u16 = 1 << 2;
-const FE: u16 = 1 << 1;
-const PF: u16 = 1 << 0;
-
-const SCCR1_UNMODELLED: u16 = LOOPS | WOMS | SBK;
-const SCCR1_MODELLED: u16 = 0x1FFE;
-const SCCR1_GUARDED: u16 = ILT | PT | PE | M | WAKE;
-const RECEIVE_FLAGS: u16 = RDRF | IDLE | OR | NF | FE | PF;
-const TRANSMIT_FLAGS: u16 = TDRE | TC;
-const SCDR_BITS: u16 = 0x01FF;
-
-/// Data bits of a frame.
-pub fn data_bits(sccr1: u16) -> u16 {
-    if sccr1 & M == 0 {
-        8
-    } else {
-        9
-    }
-}
-
-pub fn odd_ones(word: u16) -> bool {
-    word.count_ones() % 2 == 1
-}
+use crate::registers::sci::*;
+use crate::transmitter::{odd_ones, Transmitter};
 
 #[derive(Clone, Debug, PartialEq, Eq)]
 pub struct Sci {

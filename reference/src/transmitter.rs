@@ -1,7 +1,7 @@
 //! The SCI's transmit shifter, one call a sample.
 
 use crate::flags::Flags;
-use crate::sci::{data_bits, odd_ones, PE, PT, TC, TDRE, TE};
+use crate::registers::sci::{data_bits, PE, PT, TC, TDRE, TE};
 
 /// How long each bit stays on TXD.
 const SAMPLES_A_BIT: u16 = 16;
@@ -71,6 +71,11 @@ impl Transmitter {
         self.shifter = bits;
         self.samples_left = SAMPLES_A_BIT * (data_bits(sccr1) + 2);
     }
+}
+
+/// Parity, of a word to send and of one received.
+pub fn odd_ones(word: u16) -> bool {
+    word.count_ones() % 2 == 1
 }
 
 /// Start bit, data low bit first, stop bit. PE puts parity in the place of the top data bit.
