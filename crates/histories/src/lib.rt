@@ -1,4 +1,6 @@
 // The users' demands as claims about lists of the module's events, each held by a contract.
+ghost use mathlib.Core.Bool.{true};
+ghost use mathlib.Core.Path.{_≡_};
 ghost use Rattle.histories.specs.Demand2.{Demand2};
 ghost use Rattle.histories.specs.Demand3.{Demand3};
 ghost use Rattle.histories.specs.Host.{Hosted};
@@ -8,7 +10,7 @@ ghost use Rattle.histories.specs.Witness.{Met};
 // Ruled out: a frame whose bits or stop bit the receiver misses at some count of the prescalers; a word lost or marred between frames
 // that are read in time; a pin 7 that doesn't show TXD.
 pub fn demand2() -> bool
-    ensures { λ r. ⌜ Demand2 ⌝ }
+    ensures { λ r. ⌜ (r ≡ true) × Demand2 ⌝ }
 {
     true
 }
@@ -16,7 +18,7 @@ pub fn demand2() -> bool
 // Demand 3, of every list of events on a module fresh from reset; and lists that meet its hypotheses and then deliver a word.
 // Ruled out: a receiver that keeps a trace of its past; one that delivers past an unseen loss; a claim that nothing can meet.
 pub fn demand3() -> bool
-    ensures { λ r. ⌜ Demand3 × Met ⌝ }
+    ensures { λ r. ⌜ (r ≡ true) × Demand3 × Met ⌝ }
 {
     true
 }
@@ -24,7 +26,7 @@ pub fn demand3() -> bool
 // Of what a host does with the module that it keeps: its calls in a row give what the fold of the step gives.
 // Ruled out: an entry whose module is not the next call's; an answer of an earlier step.
 pub fn hosted() -> bool
-    ensures { λ r. ⌜ Hosted ⌝ }
+    ensures { λ r. ⌜ (r ≡ true) × Hosted ⌝ }
 {
     true
 }

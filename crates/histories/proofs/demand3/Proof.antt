@@ -1,10 +1,11 @@
+use mathlib.Core.Path.{refl}
 use Rattle.histories.proofs.demand3.Statement.{statement}
 use Rattle.histories.proofs.demand3.Tie as tie
 use Rattle.histories.proofs.Lifted.{demand3}
 use Rattle.histories.proofs.Witness.{met}
 
 returns : tie.Need-returns
-returns c = (demand3, met)
+returns c = (refl, demand3, met)
 
 pub demand3-spec : {M : Type 1} → statement M
 demand3-spec = tie.close (tie.spec returns)
