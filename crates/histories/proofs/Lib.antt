@@ -17,3 +17,6 @@ pub mod Stopping
 pub mod Sent
 pub mod Arriving
 pub mod Keeping
+pub mod Period
+pub mod Giving
+pub mod Comparing

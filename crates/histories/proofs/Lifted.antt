@@ -23,13 +23,12 @@ use Rattle.qsm.specs.declared.event.Access.the-variants.{Read}
 use Rattle.qsm.specs.declared.event.Event.{Event}
 use Rattle.qsm.specs.declared.event.Event.the-variants as event
 use Rattle.histories.specs.History.{after, run, Unbroken, eventOps, ops, eventSeen, watched, eventMarks, log}
-use Rattle.histories.specs.Demand3.{Off, Compared, Recovered, Afresh, Stepped, Demand3}
+use Rattle.histories.specs.Demand3.{Off, Compared, Recovered, Afresh, Stepped}
 use Rattle.histories.proofs.Rise.{on, Rise, off-append}
 use Rattle.histories.proofs.Follows.{steps, follows}
 use Rattle.histories.proofs.Told.{event-ops, event-seen, event-marks}
 use Rattle.histories.proofs.Unbroken.{event-unbroken}
 use Rattle.histories.proofs.Rises.{event-off, event-rise}
-use Rattle.histories.proofs.Touches.{reads-alike}
 use Rattle.histories.proofs.Shown.{shows-none, status-steps}
 
 abbrev serial : Module → Sci
@@ -74,7 +73,7 @@ all-log (e ∷ es) m =
     ∙ ap (λ (s : Sci). marks.log (steps e m) (m .sci) ++ marks.log (all es (after e m)) s) (follows e m)
     ∙ sym (log-append (steps e m) (all es (after e m)) (m .sci))
 
-all-unbroken : (es : List Event) (m : Module) → Unbroken es m → sci.Unbroken (all es m) (m .sci)
+pub all-unbroken : (es : List Event) (m : Module) → Unbroken es m → sci.Unbroken (all es m) (m .sci)
 all-unbroken [] m u = tt
 all-unbroken (e ∷ es) m u =
     unbroken-append (steps e m) (all es (after e m)) (m .sci) (event-unbroken e m (u .0))
@@ -147,7 +146,7 @@ module _ (early : List Event) (enable : Event) (waited : List Event) (k : Compar
   still : run waited c .sci .sccr1 ≡ c .sci .sccr1
   still = ap (λ (s : Sci). s .sccr1) (all-run waited c) ∙ run-sccr1 (all waited c) (c .sci) (all-unbroken waited c (k .unbroken))
 
-recovered : Recovered
+pub recovered : Recovered
 recovered before quiet supervisor width offset early enable waited later later′ h k =
     let m : Module = run before resetModule in
     let q : Module = run quiet m in
@@ -166,19 +165,16 @@ recovered before quiet supervisor width offset early enable waited later later�
     (all-unbroken later z ul) (all-unbroken later′ y ul′) (sym (all-ops later z) ∙ alike ∙ all-ops later′ y)
     ∙ sym (all-watched later′ y)
 
-overrun : (es : List Event) → Overrun (log es resetModule)
+pub overrun : (es : List Event) → Overrun (log es resetModule)
 overrun es =
     subst Overrun (sym (all-log es resetModule ∙ ap (marks.log (all es resetModule)) reset-serial))
     (lifted-overrun after steps serial follows resetModule reset-serial es)
 
-afresh : Afresh
+pub afresh : Afresh
 unfolding run does resets
 afresh [] es m = refl
 afresh (e ∷ past) es m = afresh past es (after e m)
 
-stepped : Stepped
+pub stepped : Stepped
 unfolding step
 stepped m e = refl
-
-pub demand3 : Demand3
-demand3 = record { recovered = recovered; stepped = stepped; readsAlike = reads-alike; afresh = afresh; overrun = overrun }

@@ -4,8 +4,8 @@ use mathlib.Core.List.{List, [], _∷_, _++_}
 use mathlib.Core.Path.{_≡_}
 use Prim.Native.Nat.{ℕ, _+_, _-_, _/_, _%_, _^_, _≤_, _<_}
 use Rattle.sci.specs.Flags.{flag, receiveFlags, common}
-use Rattle.sci.specs.Control.{RE, settings}
-use Rattle.sci.specs.Line.{noFlag, Ones, samplesIn, resyncSamples}
+use Rattle.sci.specs.Control.{SCBR, RE, settings}
+use Rattle.sci.specs.Line.{Op, noFlag, Ones, samplesIn, resyncSamples}
 use Rattle.sci.specs.Overrun.{Overrun}
 use Rattle.qsm.specs.State.{resetModule}
 use Rattle.qsm.specs.Lanes.{touches}
@@ -70,6 +70,26 @@ Recovered =
     settings (m .sci .sccr1) ≡ settings (c .sci .sccr1) →
     Unbroken later z → Unbroken later′ y → ops later z ≡ ops later′ y → watched later z ≡ watched later′ y
 
+-- Such a receiver there always is, with SCBR equal too: for every list of events from the read on, one that gets the same samples and
+-- permitted reads.
+pub record Comparison (m : Module) (given : List Op) : Type 0 where
+  pub early : List Event
+  pub enable : Event
+  pub waited : List Event
+  pub later : List Event
+  pub compared : Compared early enable waited
+  pub rate : SCBR (after enable (run early resetModule) .sci .sccr0) ≡ SCBR (m .sci .sccr0)
+  pub equal : settings (m .sci .sccr1) ≡ settings (after enable (run early resetModule) .sci .sccr1)
+  pub unbroken : Unbroken later (run waited (after enable (run early resetModule)))
+  pub same : given ≡ ops later (run waited (after enable (run early resetModule)))
+
+abbrev pub Comparable : Type 0
+Comparable =
+    (before quiet : List Event) (supervisor : Bool) (width offset : ℕ) (later : List Event) →
+    Recovers (run before resetModule) quiet supervisor width offset →
+    let m : Module = run before resetModule in
+    Comparison m (ops later (after (event.Access (Read supervisor width offset)) (run quiet m)))
+
 -- Reads are alike where they touch the same of bytes 0C to 0F: both reach the receiver or neither does, and in the same way.
 abbrev pub ReadsAlike : Type 0
 ReadsAlike =
@@ -90,6 +110,7 @@ Stepped = (m : Module) (e : Event) → after e m ≡ step m e .state
 -- status read made since its run of losses raised OR.
 pub record Demand3 : Type 0 where
   pub recovered : Recovered
+  pub comparable : Comparable
   pub stepped : Stepped
   pub readsAlike : ReadsAlike
   pub afresh : Afresh

@@ -15,7 +15,8 @@ pub fn demand2() -> bool
     true
 }
 
-// Demand 3, of every list of events on a module fresh from reset; and lists that meet its hypotheses and then deliver a word.
+// Demand 3, of every list of events on a module fresh from reset, with a receiver to compare with for each; and lists that meet its
+// hypotheses and then deliver a word.
 // Ruled out: a receiver that keeps a trace of its past; one that delivers past an unseen loss; a claim that nothing can meet.
 pub fn demand3() -> bool
     ensures { λ r. ⌜ (r ≡ true) × Demand3 × Met ⌝ }

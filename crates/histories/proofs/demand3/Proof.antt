@@ -1,7 +1,7 @@
 use mathlib.Core.Path.{refl}
 use Rattle.histories.proofs.demand3.Statement.{statement}
 use Rattle.histories.proofs.demand3.Tie as tie
-use Rattle.histories.proofs.Lifted.{demand3}
+use Rattle.histories.proofs.Comparing.{demand3}
 use Rattle.histories.proofs.Witness.{met}
 
 returns : tie.Need-returns
