@@ -38,3 +38,12 @@ pub mod StopBit
 pub mod Demand2
 pub mod Quiet
 pub mod Plain
+pub mod Turns
+pub mod Rising
+pub mod IdleCount
+pub mod ReceiverClauses
+pub mod ParitySent
+pub mod Starting
+pub mod Lasting
+pub mod SerialClauses
+pub mod Clauses

@@ -27,12 +27,12 @@ use Rattle.sci.specs.declared.transmitter.Transmitter.{Transmitter}
 use Rattle.sci.proofs.Membership.{and-left, and-right}
 
 -- The value of a word's low n bits.
-digit-eqb : (d : ℕ) → d < 2 → digit (eqb d 1) ≡ d
+pub digit-eqb : (d : ℕ) → d < 2 → digit (eqb d 1) ≡ d
 digit-eqb zero h = refl
 digit-eqb (suc zero) h = refl
 digit-eqb (suc (suc d)) h = absurd (omega arith)
 
-mod-suc : (n w : ℕ) → w % 2 ^ suc n ≡ (w / 2 % 2 ^ n) * 2 + w % 2
+pub mod-suc : (n w : ℕ) → w % 2 ^ suc n ≡ (w / 2 % 2 ^ n) * 2 + w % 2
 mod-suc n w = ap (λ (x : ℕ). w % x) (pow-suc 2 n) ∙ mod-mul w (pow-pos n) (omega arith)
 
 pub value-low : (n w : ℕ) → value (lowBits n w) ≡ w % 2 ^ n
@@ -67,7 +67,7 @@ frame-low n w =
     ∙ ap (λ (l : List Bool). false ∷ l) (low-stop n w)
 
 -- Bit j of a word.
-low-at : (n w j : ℕ) → j < n → getD (lowBits n w) j true ≡ eqb (w / 2 ^ j % 2) 1
+pub low-at : (n w j : ℕ) → j < n → getD (lowBits n w) j true ≡ eqb (w / 2 ^ j % 2) 1
 unfolding lowBits
 low-at zero w j h = absurd (omega arith)
 low-at (suc n) w zero h =

@@ -23,3 +23,7 @@ pub mod Wire
 pub mod Demand2
 pub mod Quiet
 pub mod Plain
+pub mod ReceiverClauses
+pub mod TransmitterClauses
+pub mod SerialClauses
+pub mod Clauses

@@ -7,6 +7,7 @@ ghost use Rattle.sci.specs.Resync.{Resynchronised};
 ghost use Rattle.sci.specs.Demand2.{Demand2};
 ghost use Rattle.sci.specs.Demand3.{Demand3};
 ghost use Rattle.sci.specs.Witness.{Met};
+ghost use Rattle.sci.specs.Clauses.{Clauses};
 
 // The laws of membership of the flag set.
 fn membership() -> bool
@@ -27,6 +28,14 @@ fn demand2() -> bool
 // Ruled out: a receiver that keeps a trace of its past; one that delivers past an unseen loss; one that takes one frame and no more.
 fn demand3() -> bool
     ensures { λ r. ⌜ (r ≡ true) × Resynchronised × Demand3 × Met ⌝ }
+{
+    true
+}
+
+// The clauses of document 01 on the serial half: RAF, the idle count, sleep, parity, TDRE and TC, the prescaler, the request.
+// Ruled out: RAF left set by an abandoned start; OR that asks for nothing without RDRF; a flag that rises asleep.
+fn clauses() -> bool
+    ensures { λ r. ⌜ (r ≡ true) × Clauses ⌝ }
 {
     true
 }

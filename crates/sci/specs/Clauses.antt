@@ -1,0 +1,9 @@
+-- The clauses of document 01 on the serial half, as laws of its definitions: each told otherwise than the definition that it speaks of.
+use Rattle.sci.specs.ReceiverClauses.{ReceiverClauses}
+use Rattle.sci.specs.TransmitterClauses.{TransmitterClauses}
+use Rattle.sci.specs.SerialClauses.{SerialClauses}
+
+pub record Clauses : Type 0 where
+  pub receiver : ReceiverClauses
+  pub transmitter : TransmitterClauses
+  pub serial : SerialClauses

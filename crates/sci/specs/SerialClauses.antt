@@ -1,0 +1,72 @@
+-- Document 01: the clauses on RE, on the prescaler and on the request, of accesses to the serial half and of its clocks, in any state.
+use mathlib.Core.Bool.{Bool, true, false, cond, not, _&&_, _||_}
+use mathlib.Core.List.{List, [], _∷_}
+use mathlib.Core.Path.{_≡_}
+use Prim.Native.Nat.{ℕ, suc, _+_, _*_, _%_, _^_, _<_}
+use Rattle.steps.specs.Bits.{bit}
+use Rattle.steps.specs.Iterate.{iterate}
+use Rattle.sci.specs.Flags.{RAF}
+use Rattle.sci.specs.Members.{member}
+use Rattle.sci.specs.Status.{has}
+use Rattle.sci.specs.Control.{SCBR, TE, RE}
+use Rattle.sci.specs.Receiver.{startState}
+use Rattle.sci.specs.Transmitter.{runs}
+use Rattle.sci.specs.Serial.{resetSci, active, sampled, clocked, sccr1Word, scsrWord, wroteSccr0, wroteSccr1, asks}
+use Rattle.sci.specs.Quiet.{withCount}
+use Rattle.sci.specs.Wire.{Access, accessed}
+use Rattle.sci.specs.declared.serial.Sci.{Sci}
+
+-- A write that leaves RE clear: the start state, RAF 0; the other flags stay.
+pub record Stopped (s r : Sci) : Type 0 where
+  pub start : r .receiver ≡ startState (r .receiver)
+  pub raf : has (r .status) RAF ≡ false
+  pub others : (k : ℕ) → (k ≡ 5 → ⊥) → member k (r .status .flags) ≡ member k (s .status .flags)
+  pub scdr : r .receiver .scdr ≡ s .receiver .scdr
+
+abbrev pub REStops : Type 0
+REStops =
+    (s : Sci) (v : ℕ) (upper lower : Bool) → RE (wroteSccr1 s v upper lower .sccr1) ≡ false → Stopped s (wroteSccr1 s v upper lower)
+
+-- A changed SCCR0 restarts the prescaler; one that is as it was leaves all as it was, whatever is written to bits that don't exist.
+pub record Restarts (s : Sci) : Type 0 where
+  pub changed : (v : ℕ) (upper lower : Bool) → (wroteSccr0 s v upper lower .sccr0 ≡ s .sccr0 → ⊥) →
+      wroteSccr0 s v upper lower .prescaler ≡ 0
+  pub kept : (v : ℕ) (upper lower : Bool) → wroteSccr0 s v upper lower .sccr0 ≡ s .sccr0 → wroteSccr0 s v upper lower ≡ s
+  pub same : (v : ℕ) → v % 2 ^ 13 ≡ s .sccr0 → wroteSccr0 s v true true ≡ s
+  -- Reads of SCSR and SCDR and writes of SCDR and SCCR1 don't touch it.
+  pub others : (a : Access) → accessed a s .prescaler ≡ s .prescaler
+
+-- One sample every 2 x SCBR clocks, the first that long after the prescaler restarts; none if SCBR is 0. It keeps still while TE and RE are
+-- both clear and no frame or preamble runs.
+pub record Paced (s : Sci) (x : Bool) : Type 0 where
+  pub before : active s ≡ true → s .prescaler ≡ 0 → (k : ℕ) → k < 2 * SCBR (s .sccr0) →
+      iterate k (λ (c : Sci). clocked c x) s ≡ withCount s k
+  pub sample : active s ≡ true → s .prescaler ≡ 0 → 0 < SCBR (s .sccr0) →
+      iterate (2 * SCBR (s .sccr0)) (λ (c : Sci). clocked c x) s ≡ sampled s x
+  pub none : SCBR (s .sccr0) ≡ 0 → clocked s x ≡ withCount s (clocked s x .prescaler)
+  pub still : TE (s .sccr1) ≡ false → RE (s .sccr1) ≡ false → runs (s .transmitter) ≡ false → clocked s x ≡ s
+
+-- What asks: a flag by its bit of SCSR, with its enable by its bit of SCCR1.
+pub record Source : Type 0 where
+  pub flag : ℕ
+  pub enable : ℕ
+
+abbrev pub source : ℕ → ℕ → Source
+source f e = record { flag = f; enable = e }
+
+-- TDRE and TIE, TC and TCIE, RDRF and RIE, OR and RIE, IDLE and ILIE.
+abbrev pub sources : List Source
+sources = source 8 7 ∷ source 7 6 ∷ source 6 5 ∷ source 3 5 ∷ source 4 4 ∷ []
+
+-- Both bits of one of them are set.
+unfoldable pub someSet : List Source → ℕ → ℕ → Bool
+someSet [] scsr sccr1 = false
+someSet (p ∷ ps) scsr sccr1 = (bit (p .flag) scsr && bit (p .enable) sccr1) || someSet ps scsr sccr1
+
+pub record SerialClauses : Type 0 where
+  pub stops : REStops
+  pub restarts : (s : Sci) → Restarts s
+  pub reset : resetSci .prescaler ≡ 0
+  pub paced : (s : Sci) (x : Bool) → Paced s x
+  -- SCI asks where one does, each by itself, by what SCSR and SCCR1 read.
+  pub request : (s : Sci) → asks s ≡ someSet sources (scsrWord s) (sccr1Word s)
