@@ -1,8 +1,21 @@
 -- The clauses of document 01 on the serial half.
+use mathlib.Core.Bool.{true}
+use mathlib.Core.Path.{_≡_, refl}
+use lib.ListN.{length, replicate}
+use Rattle.sci.specs.Status.{has, raise, raiseIf, fall, fallIf}
+use Rattle.sci.specs.Framer.{startBit, stopBit, framed}
+use Rattle.sci.specs.Receiver.{outcome, raised, entered, statusAfter, receiverAfter, received}
+use Rattle.sci.specs.Transmitter.{sent}
+use Rattle.sci.specs.Serial.{wroteSccr0, wroteSccr1}
+use Rattle.sci.specs.Instances.{instances}
 use Rattle.sci.specs.Clauses.{Clauses}
 use Rattle.sci.proofs.ReceiverClauses.{receiver-clauses}
 use Rattle.sci.proofs.Lasting.{transmitter-clauses}
 use Rattle.sci.proofs.SerialClauses.{serial-clauses}
 
+met : instances ≡ replicate (length instances) true
+unfolding has raise raiseIf fall fallIf startBit stopBit framed outcome raised entered statusAfter receiverAfter received sent wroteSccr0 wroteSccr1
+met = refl
+
 pub clauses : Clauses
-clauses = record { receiver = receiver-clauses; transmitter = transmitter-clauses; serial = serial-clauses }
+clauses = record { receiver = receiver-clauses; transmitter = transmitter-clauses; serial = serial-clauses; met = met }

@@ -15,7 +15,7 @@ use Rattle.sci.specs.Status.{has}
 use Rattle.sci.specs.Control.{M, bitsOf, frameSamples}
 use Rattle.sci.specs.Transmitter.{runs, level, preambleBits, beginsPreamble, sent}
 use Rattle.sci.specs.Link.{Around, sentAround, shown}
-use Rattle.sci.specs.TransmitterClauses.{frameStarts, preambleStarts, sentAll, Lasts, EachLasts, PreambleOnes, TransmitterClauses}
+use Rattle.sci.specs.TransmitterClauses.{frameStarts, sentAll, EachLasts, PreambleOnes, TransmitterClauses}
 use Rattle.sci.specs.declared.status.Status.{Status}
 use Rattle.sci.specs.declared.transmitter.Transmitter.{Transmitter}
 use Rattle.sci.proofs.Sending.{no-preamble, no-frame}

@@ -1,7 +1,7 @@
 -- The clauses on a sample of the receiver, from its definition: a sample's outcome told by before and after, then flag by flag.
 -- Assumes nothing.
 use mathlib.Core.Path.{_≡_, refl, ap, sym, _∙_}
-use mathlib.Core.Bool.{Bool, true, false, cond, not, _&&_, _||_, Bool·beq, and-true, and-false, or-false, and-comm, or-comm, false≢true}
+use mathlib.Core.Bool.{Bool, true, false, cond, not, _&&_, _||_, Bool·beq, and-true, and-false, and-comm, or-comm, false≢true}
 use Prim.Native.Nat.{ℕ, zero, suc, _-_, _%_, _≤_, _<_, min}
 use native.Mathlib.Omega.{arith}
 use lib.Count.{ones}
@@ -20,10 +20,9 @@ use Rattle.sci.specs.declared.framer.Framer.{Framer}
 use Rattle.sci.specs.declared.receiver.Receiver.{Receiver}
 use Rattle.sci.specs.declared.receiver.Outcome.{Outcome}
 use Rattle.sci.proofs.Flagged.{isSet, has-flag}
-use Rattle.sci.proofs.Same.{outside-at}
 use Rattle.sci.proofs.Sending.{low-at}
 use Rattle.sci.proofs.Turns.{Turned, turned}
-use Rattle.sci.proofs.Rising.{set-after, raf-after, idle-after, rdrf-after, or-after, pf-after}
+use Rattle.sci.proofs.Rising.{none-after, raf-after, idle-after, rdrf-after, or-after, pf-after}
 use Rattle.sci.proofs.IdleCount.{reached-is, ones-counted}
 
 some-bits : (m : Bool) → bitsOf m - 1 < bitsOf m
@@ -207,8 +206,10 @@ module _ (c : ℕ) (r : Receiver) (s : Status) (x : Bool) (h : r .framer .rt ≤
   unfolding outcome
   silent a e k m =
       let none : o .taken ≡ false = none-taken a e in
-      let outside : member k RAF ≡ false = outside-at RAF refl k m in
-      flag-is k ∙ set-after k s o (frameOf f x) bad idles ∙ rw (outside, none, a) (simp (and-false, and-true, or-false))
+      let still : idles ≡ false = rw (a, and-false) in
+      let unlost : o .lost ≡ false = rw none in
+      flag-is k ∙ ap (λ (b : Bool). isSet k (statusAfter s o (frameOf f x) bad b)) still
+      ∙ none-after k m s o (frameOf f x) bad none unlost
 
   clauses : SampleClauses c r s x
   unfolding received receiverAfter

@@ -3,57 +3,64 @@
 use mathlib.Core.Path.{_≡_, refl, sym, _∙_}
 use mathlib.Core.Bool.{Bool, true, false, not, _&&_, _||_, and-true, and-false, or-false}
 use Prim.Native.Nat.{ℕ}
-use Rattle.sci.specs.Flags.{PF, FE, NF, OR, IDLE, RAF, RDRF}
+use Rattle.sci.specs.Flags.{PF, FE, NF, OR, IDLE, RAF, RDRF, receiveFlags}
 use Rattle.sci.specs.Members.{member}
+use Rattle.sci.specs.Status.{raiseIf}
 use Rattle.sci.specs.Receiver.{raised, entered, statusAfter}
 use Rattle.sci.specs.declared.status.Status.{Status}
 use Rattle.sci.specs.declared.framer.Frame.{Frame}
 use Rattle.sci.specs.declared.receiver.Outcome.{Outcome}
-use Rattle.sci.proofs.Flagged.{isSet, set-raise, set-raiseIf, set-fallIf}
+use Rattle.sci.proofs.Flagged.{isSet, set-raise, set-raiseIf, set-fallIf, raise-keeps, fall-keeps}
+use Rattle.sci.proofs.Same.{outside-at}
 
--- Whether flag k comes with a frame that enters SCDR.
-abbrev pub comes : ℕ → Frame → Bool → Bool
-comes k f bad = member k RDRF || (f .noise && member k NF) || (not (f .stop) && member k FE) || (bad && member k PF)
+or-in : (a b c : Bool) → a || b || c ≡ a || (b || c)
+or-in true b c = refl
+or-in false b c = refl
 
-or-in : (a b c d e : Bool) → a || b || c || d || e ≡ a || (b || c || d || e)
-or-in true b c d e = refl
-or-in false b c d e = refl
-
-module _ (k : ℕ) where
+-- A flag that is neither NF nor FE.
+module _ (k : ℕ) (nf : member k NF ≡ false) (fe : member k FE ≡ false) where
   set-entered : (enters : Bool) (s : Status) (f : Frame) (bad : Bool) →
-      isSet k (entered enters s f bad) ≡ isSet k s || (enters && comes k f bad)
+      isSet k (entered enters s f bad) ≡ isSet k s || (enters && (member k RDRF || (bad && member k PF)))
   unfolding entered raised
   set-entered true s f bad =
-      rw (set-raiseIf k bad, set-raiseIf k (not (f .stop)), set-raiseIf k (f .noise), set-raise k)
-      (or-in (isSet k s) (member k RDRF) (f .noise && member k NF) (not (f .stop) && member k FE) (bad && member k PF))
+      rw (set-raiseIf k bad, raise-keeps k, raise-keeps k, set-raise k)
+      (or-in (isSet k s) (member k RDRF) (bad && member k PF))
   set-entered false s f bad = sym (or-false (isSet k s))
 
-  pub set-after : (s : Status) (o : Outcome) (f : Frame) (bad idles : Bool) →
+  set-after : (s : Status) (o : Outcome) (f : Frame) (bad idles : Bool) →
       isSet k (statusAfter s o f bad idles)
-      ≡ ((isSet k s || (o .lost && member k OR) || (o .taken && not (o .lost) && comes k f bad) || (o .begun && member k RAF))
+      ≡ ((isSet k s || (o .lost && member k OR) || (o .taken && not (o .lost) && (member k RDRF || (bad && member k PF))) || (o .begun && member k RAF))
       && not ((o .abandoned || o .reached) && member k RAF)) || (idles && member k IDLE)
   unfolding statusAfter
   set-after s o f bad idles =
       rw (set-raiseIf k idles, set-fallIf k (o .abandoned || o .reached), set-raiseIf k (o .begun), set-entered (o .taken && not (o .lost)), set-raiseIf k (o .lost))
 
+-- With nothing taken no receive flag changes but IDLE.
+pub none-after : (k : ℕ) → member k receiveFlags ≡ true → (s : Status) (o : Outcome) (f : Frame) (bad : Bool) → o .taken ≡ false → o .lost ≡ false →
+    isSet k (statusAfter s o f bad false) ≡ isSet k s
+unfolding statusAfter entered raiseIf
+none-after k m s o f bad t l =
+    let outside : member k RAF ≡ false = outside-at RAF refl k m in
+    rw (t, l, fall-keeps k, raise-keeps k)
+
 -- Each flag by itself.
 module _ (s : Status) (o : Outcome) (f : Frame) (bad idles : Bool) where
   pub raf-after : isSet 5 (statusAfter s o f bad idles) ≡ (isSet 5 s || o .begun) && not (o .abandoned || o .reached)
   unfolding member
-  raf-after = set-after 5 s o f bad idles ∙ simp (and-false, and-true, or-false)
+  raf-after = set-after 5 refl refl s o f bad idles ∙ simp (and-false, and-true, or-false)
 
   pub idle-after : isSet 4 (statusAfter s o f bad idles) ≡ isSet 4 s || idles
   unfolding member
-  idle-after = set-after 4 s o f bad idles ∙ simp (and-false, and-true, or-false)
+  idle-after = set-after 4 refl refl s o f bad idles ∙ simp (and-false, and-true, or-false)
 
   pub rdrf-after : isSet 6 (statusAfter s o f bad idles) ≡ isSet 6 s || (o .taken && not (o .lost))
   unfolding member
-  rdrf-after = set-after 6 s o f bad idles ∙ simp (and-false, and-true, or-false)
+  rdrf-after = set-after 6 refl refl s o f bad idles ∙ simp (and-false, and-true, or-false)
 
   pub or-after : isSet 3 (statusAfter s o f bad idles) ≡ isSet 3 s || o .lost
   unfolding member
-  or-after = set-after 3 s o f bad idles ∙ simp (and-false, and-true, or-false)
+  or-after = set-after 3 refl refl s o f bad idles ∙ simp (and-false, and-true, or-false)
 
   pub pf-after : isSet 0 (statusAfter s o f bad idles) ≡ isSet 0 s || (o .taken && not (o .lost) && bad)
   unfolding member
-  pf-after = set-after 0 s o f bad idles ∙ simp (and-false, and-true, or-false)
+  pf-after = set-after 0 refl refl s o f bad idles ∙ simp (and-false, and-true, or-false)

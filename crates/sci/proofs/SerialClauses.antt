@@ -1,7 +1,7 @@
 -- The clauses on RE, on the prescaler and on the request.
 -- Assumes nothing.
-use mathlib.Core.Path.{_≡_, refl, ap, ap₂, sym, _∙_}
-use mathlib.Core.Bool.{Bool, true, false, cond, not, _&&_, _||_, and-true, and-false, or-false, or-assoc, and-or-distrib-right, true≢false, false≢true}
+use mathlib.Core.Path.{_≡_, refl, ap, sym, _∙_}
+use mathlib.Core.Bool.{Bool, true, false, cond, not, _&&_, and-true, and-false, or-false, or-assoc, and-or-distrib-right, true≢false, false≢true}
 use Prim.Native.Nat.{ℕ, zero, suc, _+_, _*_, _-_, _/_, _%_, _^_, _≤_, _<_, min}
 use native.Mathlib.Omega.{arith}
 use native.Mathlib.Nat.{div-eq-of-lt}
@@ -13,11 +13,10 @@ use Rattle.steps.specs.Iterate.{iterate}
 use Rattle.sci.specs.Flags.{RAF, flag}
 use Rattle.sci.specs.Members.{member}
 use Rattle.sci.specs.Status.{has, fall}
-use Rattle.sci.specs.Control.{SCBR, TE, RE, TIE, TCIE, RIE, ILIE, sccr0Bits, sccr1Bits}
-use Rattle.sci.specs.Receiver.{startState}
+use Rattle.sci.specs.Control.{SCBR, TE, RE, sccr0Bits, sccr1Bits}
 use Rattle.sci.specs.Transmitter.{runs}
 use Rattle.sci.specs.Serial.{active, due, sampled, prescaled, clocked, sccr1Word, scsrWord, sccr0Set, wroteSccr0, withSccr1, stopped, wroteSccr1, asks}
-use Rattle.sci.specs.Quiet.{untilDue, quiet, withCount, skipped}
+use Rattle.sci.specs.Quiet.{quiet, withCount, skipped}
 use Rattle.sci.specs.Wire.{Access, readStatus, readData, writeData, writeControl, accessed}
 use Rattle.sci.specs.SerialClauses.{Stopped, REStops, Restarts, Paced, sources, someSet, SerialClauses}
 use Rattle.sci.specs.declared.serial.Sci.{Sci}

@@ -1,13 +1,13 @@
 -- Where a start bit begins, where it is abandoned and where a frame ends, told by the framer before a sample and after it.
 -- Assumes nothing.
 use mathlib.Core.Path.{_≡_, refl, ap, sym, _∙_}
-use mathlib.Core.Bool.{Bool, true, false, cond, not, _&&_, _||_, and-false, and-true}
+use mathlib.Core.Bool.{Bool, true, false, not, _&&_, _||_}
 use Prim.Native.Nat.{ℕ, _+_, _%_, _≤_, _<_}
 use native.Mathlib.Omega.{arith}
 use lib.Dec.{eqb}
 use borrow.Author.Tests.{eqb-true, eqb-false, eq-eqb, ne-eqb}
 use Rattle.sci.specs.Bits.{vote}
-use Rattle.sci.specs.Framer.{begins, abandons, ends, searched, judged, startBit, dataBit, stopBit, inBit, framed}
+use Rattle.sci.specs.Framer.{begins, abandons, ends, searched, judged, startBit, dataBit, stopBit, inBit, nextRt, framed}
 use Rattle.sci.specs.declared.framer.Framer.{Framer}
 use Rattle.sci.proofs.Frames.{by-cond}
 
@@ -25,102 +25,92 @@ next-is rt k h l m = go (eqb rt k) refl
     go true e = sym (eq-eqb (rt % 16 + 1) (k + 1) (omega (arith, eqb-true rt k e)))
     go false e = sym (ne-eqb (rt % 16 + 1) (k + 1) (λ z. eqb-false rt k e (omega arith)))
 
-abbrev at : Bool → Bool → ℕ → ℕ → Bool → Bool → Bool → ℕ → Framer
-at framing starting left rt first second noise shift =
-    record {
-      framing = framing;
-      starting = starting;
-      left = left;
-      rt = rt;
-      first = first;
-      second = second;
-      noise = noise;
-      shift = shift;
-    }
-
 -- A frame goes on, or is over, by the test of its RT; and RT stays within its bit.
 record Goes (over : Bool) (g : Framer) : Type 0 where
   framing : over ≡ not (g .framing)
   rt : g .rt ≤ 16
 
-module _ (left rt : ℕ) (first second noise : Bool) (shift : ℕ) (x : Bool) (h : rt ≤ 16) where
+module _ (f : Framer) (x : Bool) (e : f .framing ≡ true) where
   abbrev r : ℕ
-  r = rt % 16 + 1
+  r = nextRt f
 
-  start-goes : Goes (eqb r 7 && vote first second x) (startBit (at true true left rt first second noise shift) r x)
+  on : (over : Bool) (g : Framer) → over ≡ false → g .framing ≡ true → g .rt ≤ 16 → Goes over g
+  on over g o k l = record { framing = rw (o, k); rt = l }
+
+  abbrev abandoning : Bool
+  abandoning = eqb r 7 && vote (f .first) (f .second) x
+
+  start-goes : Goes abandoning (startBit f r x)
   unfolding startBit
   start-goes =
-      by-cond (Goes (eqb r 7 && vote first second x)) (eqb r 3) (λ e. on (omega (arith, eqb-true r 3 e)))
-      (λ e₁. by-cond (Goes (eqb r 7 && vote first second x)) (eqb r 5) (λ e. on (omega (arith, eqb-true r 5 e)))
-      (λ e₂. by-cond (Goes (eqb r 7 && vote first second x)) (eqb r 7) (λ e. rw e (judges (vote first second x)))
-      (λ e₃. by-cond (Goes (eqb r 7 && vote first second x)) (eqb r 16) (λ e. on (eqb-false r 7 e₃))
-      (λ e. on (eqb-false r 7 e₃)))))
+      by-cond (Goes abandoning) (eqb r 3) (λ u. on abandoning _ (not-at (omega (arith, eqb-true r 3 u))) e (omega arith))
+      (λ u₁. by-cond (Goes abandoning) (eqb r 5) (λ u. on abandoning _ (not-at (omega (arith, eqb-true r 5 u))) e (omega arith))
+      (λ u₂. by-cond (Goes abandoning) (eqb r 7) (λ u. rw u (judges (vote (f .first) (f .second) x)))
+      (λ u₃. by-cond (Goes abandoning) (eqb r 16) (λ u. on abandoning _ (not-at (eqb-false r 7 u₃)) e (omega arith))
+      (λ u. on abandoning _ (not-at (eqb-false r 7 u₃)) e (omega arith)))))
     where
-      on : {starting : Bool} {left : ℕ} {first′ second′ noise′ : Bool} {shift′ : ℕ} → (r ≡ 7 → ⊥) →
-          Goes (eqb r 7 && vote first second x) (at true starting left r first′ second′ noise′ shift′)
-      on k = record { framing = ap (λ (b : Bool). b && vote first second x) (ne-eqb r 7 k); rt = omega arith }
+      not-at : (r ≡ 7 → ⊥) → abandoning ≡ false
+      not-at k = ap (λ (b : Bool). b && vote (f .first) (f .second) x) (ne-eqb r 7 k)
 
-      judges : (v : Bool) → Goes v (judged v (at true true left rt first second noise shift) (first || second || x))
+      judges : (v : Bool) → Goes v (judged v f (f .first || f .second || x))
       judges true = record { framing = refl; rt = omega arith }
-      judges false = record { framing = refl; rt = omega arith }
+      judges false = on false _ refl e (omega arith)
 
-  stop-goes : Goes (eqb r 10) (stopBit (at true false left rt first second noise shift) r x)
+  stop-goes : Goes (eqb r 10) (stopBit f r x)
   unfolding stopBit
   stop-goes =
-      by-cond (Goes (eqb r 10)) (eqb r 8) (λ e. on (omega (arith, eqb-true r 8 e)))
-      (λ e₁. by-cond (Goes (eqb r 10)) (eqb r 9) (λ e. on (omega (arith, eqb-true r 9 e)))
-      (λ e₂. by-cond (Goes (eqb r 10)) (eqb r 10) (λ e. record { framing = e; rt = omega arith })
-      (λ e. on (eqb-false r 10 e))))
-    where
-      on : {first′ second′ : Bool} → (r ≡ 10 → ⊥) → Goes (eqb r 10) (at true false left r first′ second′ noise shift)
-      on k = record { framing = ne-eqb r 10 k; rt = omega arith }
+      by-cond (Goes (eqb r 10)) (eqb r 8) (λ u. on (eqb r 10) _ (ne-eqb r 10 (omega (arith, eqb-true r 8 u))) e (omega arith))
+      (λ u₁. by-cond (Goes (eqb r 10)) (eqb r 9) (λ u. on (eqb r 10) _ (ne-eqb r 10 (omega (arith, eqb-true r 9 u))) e (omega arith))
+      (λ u₂. by-cond (Goes (eqb r 10)) (eqb r 10) (λ u. record { framing = u; rt = omega arith })
+      (λ u. on (eqb r 10) _ u e (omega arith))))
 
-  data-goes : (n : ℕ) → Goes false (dataBit n (at true false left rt first second noise shift) r x)
+  data-goes : (n : ℕ) → Goes false (dataBit n f r x)
   unfolding dataBit
   data-goes n =
-      by-cond (Goes false) (eqb r 8) (λ e. on)
-      (λ e₁. by-cond (Goes false) (eqb r 9) (λ e. on)
-      (λ e₂. by-cond (Goes false) (eqb r 10) (λ e. on) (λ e₃. by-cond (Goes false) (eqb r 16) (λ e. on) (λ e. on))))
-    where
-      on : {left′ : ℕ} {first′ second′ noise′ : Bool} {shift′ : ℕ} → Goes false (at true false left′ r first′ second′ noise′ shift′)
-      on = record { framing = refl; rt = omega arith }
+      by-cond (Goes false) (eqb r 8) (λ u. on false _ refl e (omega arith))
+      (λ u₁. by-cond (Goes false) (eqb r 9) (λ u. on false _ refl e (omega arith))
+      (λ u₂. by-cond (Goes false) (eqb r 10) (λ u. on false _ refl e (omega arith))
+      (λ u₃. by-cond (Goes false) (eqb r 16) (λ u. on false _ refl e (omega arith)) (λ u. on false _ refl e (omega arith)))))
 
-search-turned : (n : ℕ) (starting : Bool) (left rt : ℕ) (first second noise : Bool) (shift : ℕ) (three x : Bool) → rt ≤ 16 →
-    Turned (at false starting left rt first second noise shift) three x
-    (framed n (at false starting left rt first second noise shift) three x)
-unfolding framed
-search-turned n starting left rt first second noise shift true true h = record { begun = refl; abandoned = refl; ended = refl; within = h }
-search-turned n starting left rt first second noise shift true false h =
-    record { begun = refl; abandoned = refl; ended = refl; within = omega arith }
-search-turned n starting left rt first second noise shift false x h = record { begun = refl; abandoned = refl; ended = refl; within = h }
+-- In the start bit, and past it.
+early : (f g : Framer) (x over : Bool) → f .framing ≡ true → f .starting ≡ true → eqb (f .rt) 6 && vote (f .first) (f .second) x ≡ over →
+    Goes over g → abandons f x ≡ f .framing && f .starting && not (g .framing)
+early f g x over e s o h = rw (e, s) (o ∙ h .framing)
 
-late-turned : (n left rt : ℕ) (first second noise : Bool) (shift : ℕ) (three x : Bool) → rt ≤ 16 →
-    (stops : Bool) → eqb left 0 ≡ stops → Turned (at true false left rt first second noise shift) three x
-    (inBit false stops n (at true false left rt first second noise shift) (rt % 16 + 1) x)
-late-turned n left rt first second noise shift three x h true e =
-    let g = stop-goes left rt first second noise shift x h in
+late : (f g : Framer) (over : Bool) → f .framing ≡ true → f .starting ≡ false → eqb (f .left) 0 && eqb (f .rt) 9 ≡ over → Goes over g →
+    ends f ≡ f .framing && not (f .starting) && not (g .framing)
+late f g over e s o h = rw (e, s) (o ∙ h .framing)
+
+-- In a bit, by which bit it is.
+in-bit : (n : ℕ) (f : Framer) (three x : Bool) → f .rt ≤ 16 → f .framing ≡ true → (starting stopping : Bool) → f .starting ≡ starting →
+    eqb (f .left) 0 ≡ stopping → Turned f three x (inBit starting stopping n f (nextRt f) x)
+in-bit n f three x h e true stopping s l =
+    let g : Goes _ (startBit f (nextRt f) x) = start-goes f x e in
     record {
-      begun = refl;
-      abandoned = refl;
-      ended = rw (e, next-is rt 9 h (omega arith) (omega arith)) (g .framing);
+      begun = rw e;
+      abandoned = early f _ x _ e s (ap (λ (b : Bool). b && vote (f .first) (f .second) x) (next-is (f .rt) 6 h (omega arith) (omega arith))) g;
+      ended = rw (e, s);
       within = g .rt;
     }
-late-turned n left rt first second noise shift three x h false e =
-    let g = data-goes left rt first second noise shift x h n in
-    record { begun = refl; abandoned = refl; ended = rw e (g .framing); within = g .rt }
+in-bit n f three x h e false true s l =
+    let g : Goes _ (stopBit f (nextRt f) x) = stop-goes f x e in
+    record {
+      begun = rw e;
+      abandoned = rw (e, s);
+      ended = late f _ (eqb (nextRt f) 10) e s (rw l (next-is (f .rt) 9 h (omega arith) (omega arith))) g;
+      within = g .rt;
+    }
+in-bit n f three x h e false false s l =
+    let g : Goes _ (dataBit n f (nextRt f) x) = data-goes f x e n in
+    record { begun = rw e; abandoned = rw (e, s); ended = late f _ false e s (rw l) g; within = g .rt }
 
-turned-at : (n : ℕ) (framing starting : Bool) (left rt : ℕ) (first second noise : Bool) (shift : ℕ) (three x : Bool) → rt ≤ 16 →
-    Turned (at framing starting left rt first second noise shift) three x
-    (framed n (at framing starting left rt first second noise shift) three x)
-unfolding framed
-turned-at n true true left rt first second noise shift three x h =
-    let g = start-goes left rt first second noise shift x h in
-    record { begun = refl; abandoned = rw (next-is rt 6 h (omega arith) (omega arith)) (g .framing); ended = refl; within = g .rt }
-turned-at n true false left rt first second noise shift three x h =
-    late-turned n left rt first second noise shift three x h (eqb left 0) refl
-turned-at n false starting left rt first second noise shift three x h =
-    search-turned n starting left rt first second noise shift three x h
+search : (n : ℕ) (f : Framer) (three x : Bool) → f .rt ≤ 16 → f .framing ≡ false → (b : Bool) → begins f three x ≡ b →
+    Turned f three x (searched b f n)
+search n f three x h e true u = record { begun = u ∙ rw e; abandoned = rw e; ended = rw e; within = omega arith }
+search n f three x h e false u = record { begun = u ∙ rw e; abandoned = rw e; ended = rw e; within = h }
 
 pub turned : (n : ℕ) (f : Framer) (three x : Bool) → f .rt ≤ 16 → Turned f three x (framed n f three x)
+unfolding framed
 turned n f three x h =
-    turned-at n (f .framing) (f .starting) (f .left) (f .rt) (f .first) (f .second) (f .noise) (f .shift) three x h
+    by-cond (Turned f three x) (f .framing) (λ e. in-bit n f three x h e (f .starting) (eqb (f .left) 0) refl refl)
+    (λ e. search n f three x h e (begins f three x) refl)

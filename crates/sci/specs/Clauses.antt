@@ -1,9 +1,15 @@
 -- The clauses of document 01 on the serial half, as laws of its definitions: each told otherwise than the definition that it speaks of.
+use mathlib.Core.Bool.{true}
+use mathlib.Core.Path.{_≡_}
+use lib.ListN.{length, replicate}
 use Rattle.sci.specs.ReceiverClauses.{ReceiverClauses}
 use Rattle.sci.specs.TransmitterClauses.{TransmitterClauses}
 use Rattle.sci.specs.SerialClauses.{SerialClauses}
+use Rattle.sci.specs.Instances.{instances}
 
 pub record Clauses : Type 0 where
   pub receiver : ReceiverClauses
   pub transmitter : TransmitterClauses
   pub serial : SerialClauses
+  -- What they ask for can be met.
+  pub met : instances ≡ replicate (length instances) true

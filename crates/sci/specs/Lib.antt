@@ -26,4 +26,5 @@ pub mod Plain
 pub mod ReceiverClauses
 pub mod TransmitterClauses
 pub mod SerialClauses
+pub mod Instances
 pub mod Clauses

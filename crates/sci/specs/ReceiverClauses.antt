@@ -3,7 +3,7 @@
 use mathlib.Core.Bool.{Bool, true, false, cond, not, _&&_, _||_}
 use mathlib.Core.List.{List, [], _∷_}
 use mathlib.Core.Path.{_≡_}
-use Prim.Native.Nat.{ℕ, suc, _+_, _-_, _%_, _≤_, min}
+use Prim.Native.Nat.{ℕ, suc, _-_, _%_, _≤_, min}
 use lib.Count.{ones}
 use lib.Dec.{eqb, ltb}
 use lib.ListN.{getD}
@@ -18,7 +18,6 @@ use Rattle.sci.specs.Line.{Op, acts}
 use Rattle.sci.specs.Link.{samplesOf}
 use Rattle.sci.specs.declared.status.Status.{Status}
 use Rattle.sci.specs.declared.receiver.Receiver.{Receiver}
-use Rattle.sci.specs.declared.receiver.Received.{Received}
 
 -- From r to q: a start bit begins, at RT1; it is abandoned; a frame ends.
 abbrev pub startBegins : Receiver → Receiver → Bool

@@ -1,8 +1,8 @@
 -- Document 01: the clauses on RE, on the prescaler and on the request, of accesses to the serial half and of its clocks, in any state.
-use mathlib.Core.Bool.{Bool, true, false, cond, not, _&&_, _||_}
+use mathlib.Core.Bool.{Bool, true, false, _&&_, _||_}
 use mathlib.Core.List.{List, [], _∷_}
 use mathlib.Core.Path.{_≡_}
-use Prim.Native.Nat.{ℕ, suc, _+_, _*_, _%_, _^_, _<_}
+use Prim.Native.Nat.{ℕ, _*_, _%_, _^_, _<_}
 use Rattle.steps.specs.Bits.{bit}
 use Rattle.steps.specs.Iterate.{iterate}
 use Rattle.sci.specs.Flags.{RAF}
