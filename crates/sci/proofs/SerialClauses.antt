@@ -18,7 +18,7 @@ use Rattle.sci.specs.Transmitter.{runs}
 use Rattle.sci.specs.Serial.{active, due, sampled, prescaled, clocked, sccr1Word, scsrWord, sccr0Set, wroteSccr0, withSccr1, stopped, wroteSccr1, asks}
 use Rattle.sci.specs.Quiet.{quiet, withCount, skipped}
 use Rattle.sci.specs.Wire.{Access, readStatus, readData, writeData, writeControl, accessed}
-use Rattle.sci.specs.SerialClauses.{Stopped, REStops, Restarts, Paced, sources, someSet, SerialClauses}
+use Rattle.sci.specs.SerialClauses.{bitsDown, flagsDown, Mapped, Stopped, REStops, Restarts, Paced, sources, someSet, SerialClauses}
 use Rattle.sci.specs.declared.serial.Sci.{Sci}
 use Rattle.sci.proofs.Flagged.{isSet, has-flag, set-fall}
 use Rattle.sci.proofs.Quiet.{skips, plays}
@@ -156,5 +156,9 @@ request s =
     rw (flag-read 8 s (omega arith), flag-read 7 s (omega arith), flag-read 6 s (omega arith), flag-read 3 s (omega arith), flag-read 4 s (omega arith), enable-read 7 s (omega arith) (omega arith), enable-read 6 s (omega arith) (omega arith), enable-read 5 s (omega arith) (omega arith), enable-read 4 s (omega arith) (omega arith))
     (simp (or-assoc, or-false, and-or-distrib-right))
 
+mapped : Mapped
+unfolding bitsDown flagsDown
+mapped = record { sccr1 = λ c. refl; scsr = refl }
+
 pub serial-clauses : SerialClauses
-serial-clauses = record { stops = re-stops; restarts = restarts; reset = refl; paced = paced; request = request }
+serial-clauses = record { mapped = mapped; stops = re-stops; restarts = restarts; reset = refl; paced = paced; request = request }

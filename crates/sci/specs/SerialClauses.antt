@@ -1,20 +1,36 @@
--- Document 01: the clauses on RE, on the prescaler and on the request, of accesses to the serial half and of its clocks, in any state.
+-- Document 01: the clauses on the register map, on RE, on the prescaler and on the request, in any state of the serial half.
 use mathlib.Core.Bool.{Bool, true, false, _&&_, _||_}
 use mathlib.Core.List.{List, [], _∷_}
 use mathlib.Core.Path.{_≡_}
-use Prim.Native.Nat.{ℕ, _*_, _%_, _^_, _<_}
+use Prim.Native.Nat.{ℕ, zero, suc, _*_, _%_, _^_, _<_}
 use Rattle.steps.specs.Bits.{bit}
 use Rattle.steps.specs.Iterate.{iterate}
-use Rattle.sci.specs.Flags.{RAF}
+use Rattle.sci.specs.Flags.{PF, FE, NF, OR, IDLE, RAF, RDRF, TC, TDRE, flag}
 use Rattle.sci.specs.Members.{member}
 use Rattle.sci.specs.Status.{has}
-use Rattle.sci.specs.Control.{SCBR, TE, RE}
+use Rattle.sci.specs.Control.{SCBR, ILT, PT, PE, M, WAKE, TIE, TCIE, RIE, ILIE, TE, RE, RWU}
 use Rattle.sci.specs.Receiver.{startState}
 use Rattle.sci.specs.Transmitter.{runs}
 use Rattle.sci.specs.Serial.{resetSci, active, sampled, clocked, sccr1Word, scsrWord, wroteSccr0, wroteSccr1, asks}
 use Rattle.sci.specs.Quiet.{withCount}
 use Rattle.sci.specs.Wire.{Access, accessed}
+use Rattle.sci.specs.declared.flags.Flags.{Flags}
 use Rattle.sci.specs.declared.serial.Sci.{Sci}
+
+-- Bits k to 1 of a word, the highest first; and flags k to 0.
+unfoldable pub bitsDown : ℕ → ℕ → List Bool
+bitsDown zero w = []
+bitsDown (suc k) w = bit (suc k) w ∷ bitsDown k w
+
+unfoldable pub flagsDown : ℕ → List Flags
+flagsDown zero = flag 1 ∷ []
+flagsDown (suc k) = flag (2 ^ suc k) ∷ flagsDown k
+
+-- The register map: the fields of SCCR1 from bit 12 down, and the flags of SCSR from bit 8 down.
+pub record Mapped : Type 0 where
+  pub sccr1 : (c : ℕ) →
+      ILT c ∷ PT c ∷ PE c ∷ M c ∷ WAKE c ∷ TIE c ∷ TCIE c ∷ RIE c ∷ ILIE c ∷ TE c ∷ RE c ∷ RWU c ∷ [] ≡ bitsDown 12 c
+  pub scsr : TDRE ∷ TC ∷ RDRF ∷ RAF ∷ IDLE ∷ OR ∷ NF ∷ FE ∷ PF ∷ [] ≡ flagsDown 8
 
 -- A write that leaves RE clear: the start state, RAF 0; the other flags stay.
 pub record Stopped (s r : Sci) : Type 0 where
@@ -64,6 +80,7 @@ someSet [] scsr sccr1 = false
 someSet (p ∷ ps) scsr sccr1 = (bit (p .flag) scsr && bit (p .enable) sccr1) || someSet ps scsr sccr1
 
 pub record SerialClauses : Type 0 where
+  pub mapped : Mapped
   pub stops : REStops
   pub restarts : (s : Sci) → Restarts s
   pub reset : resetSci .prescaler ≡ 0
