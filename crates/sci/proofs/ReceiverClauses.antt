@@ -21,6 +21,7 @@ use Rattle.sci.specs.declared.receiver.Receiver.{Receiver}
 use Rattle.sci.specs.declared.receiver.Outcome.{Outcome}
 use Rattle.sci.proofs.Flagged.{isSet, has-flag}
 use Rattle.sci.proofs.Sending.{low-at}
+use Rattle.sci.proofs.Samples.{stays-awake, count-zero}
 use Rattle.sci.proofs.Turns.{Turned, turned}
 use Rattle.sci.proofs.Rising.{none-after, raf-after, idle-after, rdrf-after, or-after, pf-after}
 use Rattle.sci.proofs.IdleCount.{reached-is, ones-counted}
@@ -129,10 +130,6 @@ module _ (c : ℕ) (r : Receiver) (s : Status) (x : Bool) (h : r .framer .rt ≤
   raf : has t RAF ≡ (has s RAF || startBegins r q) && not (startAbandoned r q || idleReached n r q)
   raf = has-flag 5 t ∙ flag-is 5 ∙ raf-after s o (frameOf f x) bad idles ∙ rw (begun-is, abandoned-is, reached, has-flag 5 s)
 
-  zero-resets : x ≡ false → q .idle ≡ 0
-  unfolding received receiverAfter outcome
-  zero-resets e = rw e
-
   end-resets : ILT c ≡ true → frameEnds r q ≡ true → q .idle ≡ 0
   unfolding received receiverAfter outcome
   end-resets i e =
@@ -192,10 +189,6 @@ module _ (c : ℕ) (r : Receiver) (s : Status) (x : Bool) (h : r .framer .rt ≤
   unfolding received receiverAfter outcome
   wakes-frame a w = rw (a, w, ← ends-is, ← last-is) (simp (and-true, and-false))
 
-  awake : r .asleep ≡ false → q .asleep ≡ false
-  unfolding received receiverAfter
-  awake a = rw a
-
   -- Asleep and not woken by a frame nothing is taken.
   none-taken : r .asleep ≡ true → q .asleep || not (WAKE c) ≡ true → o .taken ≡ false
   unfolding received receiverAfter outcome
@@ -217,7 +210,7 @@ module _ (c : ℕ) (r : Receiver) (s : Status) (x : Bool) (h : r .framer .rt ≤
       record {
         starts = starts;
         raf = raf;
-        zero = zero-resets;
+        zero = count-zero r s c x;
         ended = end-resets;
         one = one-counts;
         idle = idle;
@@ -228,7 +221,7 @@ module _ (c : ℕ) (r : Receiver) (s : Status) (x : Bool) (h : r .framer .rt ≤
         pf = pf;
         wakesIdle = wakes-idle;
         wakesFrame = wakes-frame;
-        awake = awake;
+        awake = stays-awake r s c x;
         silent = silent;
         within = turn .within;
       }

@@ -2,7 +2,7 @@
 -- k samples after the frame began the shifter holds `frameBits` shifted by k / 16, so that sample shows bit k / 16.
 -- Assumes nothing.
 use Prim.Native.Nat.{ℕ, zero, suc, _+_, _*_, _-_, _/_, _%_, _^_, _<_}
-use mathlib.Core.Bool.{Bool, true, false, not, _&&_, cond, Bool·beq, and-false, false≢true}
+use mathlib.Core.Bool.{Bool, true, false, not, _&&_, cond, and-false}
 use mathlib.Core.List.{List, [], _∷_, _++_}
 use mathlib.Core.Path.{_≡_, refl, ap, ap₂, sym, _∙_}
 use native.Mathlib.Omega.{arith}
@@ -19,7 +19,7 @@ use Rattle.steps.specs.Bits.{digit}
 use Rattle.sci.specs.Control.{PT, PE, M, TE, bitsOf, frameSamples}
 use Rattle.sci.specs.Flags.{TDRE}
 use Rattle.sci.specs.Status.{has}
-use Rattle.sci.specs.Bits.{odd, parityBit}
+use Rattle.sci.specs.Bits.{parityBit}
 use Rattle.sci.specs.Transmitter.{level, dataSent, frameBits, beginsPreamble, beginsFrame, free, sent}
 use Rattle.sci.specs.Levels.{lowBits, value, stretched, frameLevels}
 use Rattle.sci.specs.declared.status.Status.{Status}
@@ -147,26 +147,34 @@ begins-sending t s c e =
     let q : beginsPreamble t c ≡ false = ap (λ (b : Bool). TE c && free t && b) p ∙ and-false (TE c && free t) in
     rw (q, e) (record { left = omega arith; shift = omega arith })
 
--- Parity. The count of ones of the word with its top bit set.
-flip-odd : (x : ℕ) → eqb ((1 + x) % 2) 1 ≡ not (eqb (x % 2) 1)
-flip-odd x = go (x % 2) ((1 + x) % 2) (omega arith) (omega arith)
-  where
-    go : (d e : ℕ) → d < 2 → e ≡ 1 - d → eqb e 1 ≡ not (eqb d 1)
-    go zero e h p = rw p
-    go (suc zero) e h p = rw p
-    go (suc (suc d)) e h p = absurd (omega arith)
-
-turned : (o pt : Bool) → not (Bool·beq o pt) ≡ true → not (Bool·beq (not o) pt) ≡ false
-turned true true e = absurd (false≢true e)
-turned true false e = refl
-turned false true e = refl
-turned false false e = absurd (false≢true e)
-
-odd-top : (m w : ℕ) → w < 2 ^ m → odd (w + 2 ^ m) ≡ not (odd w)
+-- Parity goes by the number of ones, even or odd.
+ones-digit : (d : ℕ) → d < 2 → ones d ≡ d
 unfolding ones
-odd-top m w h =
+ones-digit zero h = refl
+ones-digit (suc zero) h = refl
+ones-digit (suc (suc d)) h = absurd (omega arith)
+
+by-ones : (pt : Bool) (w : ℕ) → parityBit pt w ≡ parityBit pt (ones w % 2)
+by-ones pt w =
+    let same : ones (ones w % 2) % 2 ≡ ones w % 2 = rw (ones-digit (ones w % 2) (omega arith)) (omega arith) in
+    rw same
+
+-- The top bit turns it round.
+turned : (pt : Bool) (d : ℕ) → d < 2 → parityBit pt (1 - d) ≡ not (parityBit pt d)
+unfolding ones
+turned true zero h = refl
+turned true (suc zero) h = refl
+turned false zero h = refl
+turned false (suc zero) h = refl
+turned pt (suc (suc d)) h = absurd (omega arith)
+
+top-turns : (pt : Bool) (m w : ℕ) → w < 2 ^ m → parityBit pt (w + 2 ^ m) ≡ not (parityBit pt w)
+unfolding ones
+top-turns pt m w h =
     let e : w + 2 ^ m ≡ 1 * 2 ^ m + w = omega arith in
-    ap (λ (x : ℕ). eqb (ones x % 2) 1) e ∙ ap (λ (x : ℕ). eqb (x % 2) 1) (ones-cat m 1 w h) ∙ flip-odd (ones w)
+    let count : ones (w + 2 ^ m) ≡ 1 + ones w = ap ones e ∙ ones-cat m 1 w h in
+    let more : ones (w + 2 ^ m) % 2 ≡ 1 - ones w % 2 = omega arith in
+    by-ones pt (w + 2 ^ m) ∙ ap (parityBit pt) more ∙ turned pt (ones w % 2) (omega arith) ∙ ap not (sym (by-ones pt w))
 
 -- The word sent with PE has right parity.
 pub parity-right : (n w : ℕ) (pt : Bool) → parityBit pt (dataSent n true pt w) ≡ false
@@ -176,8 +184,7 @@ parity-right n w pt = go (parityBit pt low) refl
     low = w % 2 ^ (n - 1)
 
     go : (p : Bool) → parityBit pt low ≡ p → parityBit pt (cond p (low + 2 ^ (n - 1)) low) ≡ false
-    go true e =
-        ap (λ (o : Bool). not (Bool·beq o pt)) (odd-top (n - 1) low (mod-lt w (pow-pos (n - 1)))) ∙ turned (odd low) pt e
+    go true e = top-turns pt (n - 1) low (mod-lt w (pow-pos (n - 1))) ∙ ap not e
     go false e = e
 
 pred-suc : (n : ℕ) → 0 < n → n ≡ suc (n - 1)

@@ -7,7 +7,7 @@ use native.Mathlib.Omega.{arith}
 use lib.Dec.{eqb}
 use borrow.Author.Tests.{eqb-false}
 use Rattle.sci.specs.Flags.{receiveFlags}
-use Rattle.sci.specs.Control.{ILT, M, PE, PT, bitsOf, frameSamples}
+use Rattle.sci.specs.Control.{M, PE, PT, bitsOf, frameSamples}
 use Rattle.sci.specs.Bits.{parityBit}
 use Rattle.sci.specs.Framer.{ends, frameOf, framed}
 use Rattle.sci.specs.Receiver.{startState, three, takes, full, idleCount, outcome, receiverAfter, received}
@@ -59,7 +59,7 @@ sound-sample sccr1 x p i =
       fits = m .fits;
       low =
           low-after (o .counted) n (r .idle) (togo n f) (togo n g)
-          (λ c. m .onward (and-left x (not (ends f && ILT sccr1)) c)) (i .low) (within n g (m .fits));
+          (λ c. m .onward (and-left x _ c)) (i .low) (within n g (m .fits));
       top = top-after (o .counted) n (r .idle);
       calm =
           calm-after (o .counted) (o .reached) (o .taken && not (o .lost)) (r .since) n (r .idle) refl (i .top) (i .calm)
