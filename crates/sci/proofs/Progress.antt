@@ -5,7 +5,7 @@ use mathlib.Core.List.{List, [], _∷_}
 use Prim.Native.Nat.{ℕ, zero, suc, _+_, _≤_, _<_}
 use native.Mathlib.Omega.{arith}
 use native.Mathlib.Decide.{decLt}
-use Rattle.sci.specs.Control.{ILT, M, bitsOf, frameSamples}
+use Rattle.sci.specs.Control.{M, bitsOf, frameSamples}
 use Rattle.sci.specs.Framer.{searching, ends, framed}
 use Rattle.sci.specs.Receiver.{three, idleCount, outcome, receiverAfter, received}
 use Rattle.sci.specs.Line.{Op, sample, read, act, acts, Ones, samplesIn, resyncSamples}
@@ -64,7 +64,7 @@ progress-one sccr1 k p i g =
       busy = λ h. omega (arith, m .onward refl h, g .busy (omega (arith, m .onward refl h)));
       rest =
           λ z c.
-          rest-after (ends f) (ILT sccr1) n k (r .idle) (togo n f) (togo n (framed n f (three r) true)) (m .over) (g .busy)
+          rest-after (ends f) _ n k (r .idle) (togo n f) (togo n (framed n f (three r) true)) (m .over) (g .busy)
           (g .rest) c;
       one = λ h. refl;
       two = λ h. g .one (omega arith);
