@@ -1,7 +1,7 @@
 -- The clauses on RE, on the prescaler and on the request.
 -- Assumes nothing.
 use mathlib.Core.Path.{_≡_, refl, ap, sym, _∙_}
-use mathlib.Core.Bool.{Bool, true, false, cond, not, _&&_, and-true, and-false, or-false, or-assoc, and-or-distrib-right, true≢false, false≢true}
+use mathlib.Core.Bool.{Bool, true, false, cond, not, _&&_, and-true, and-false, or-true, or-false, or-assoc, and-or-distrib-right, true≢false, false≢true}
 use Prim.Native.Nat.{ℕ, zero, suc, _+_, _*_, _-_, _/_, _%_, _^_, _≤_, _<_, min}
 use native.Mathlib.Omega.{arith}
 use native.Mathlib.Nat.{div-eq-of-lt}
@@ -18,7 +18,7 @@ use Rattle.sci.specs.Transmitter.{runs}
 use Rattle.sci.specs.Serial.{active, due, sampled, prescaled, clocked, sccr1Word, scsrWord, sccr0Set, wroteSccr0, withSccr1, stopped, wroteSccr1, asks}
 use Rattle.sci.specs.Quiet.{quiet, withCount, skipped}
 use Rattle.sci.specs.Wire.{Access, readStatus, readData, writeData, writeControl, accessed}
-use Rattle.sci.specs.SerialClauses.{bitsDown, flagsDown, Mapped, Stopped, REStops, Restarts, Paced, sources, someSet, SerialClauses}
+use Rattle.sci.specs.SerialClauses.{bitsDown, flagsDown, Mapped, Queued, Stopped, REStops, Restarts, Paced, sources, someSet, SerialClauses}
 use Rattle.sci.specs.declared.serial.Sci.{Sci}
 use Rattle.sci.proofs.Flagged.{isSet, has-flag, set-fall}
 use Rattle.sci.proofs.Quiet.{skips, plays}
@@ -62,6 +62,34 @@ unfolding wroteSccr1
 re-stops s v upper lower =
     let new : ℕ = merge (sccr1Word s) v upper lower in
     stops s new (RE new) refl
+
+te-put : (w : ℕ) → TE (sccr1Bits w) ≡ TE w
+te-put w =
+    let e : sccr1Bits w / 2 ^ 3 % 2 ≡ w / 2 ^ 3 % 2 = omega arith in
+    ap (λ (d : ℕ). eqb d 1) e
+
+queues : (s : Sci) (v : ℕ) → Queued s (withSccr1 s v)
+queues s v =
+    record {
+      rises = λ e f. rw (e, sym (te-put v) ∙ f) (or-true (s .transmitter .preamble));
+      stays = λ e f. rw (e, sym (te-put v) ∙ f) (or-false (s .transmitter .preamble));
+      falls = λ f. rw (sym (te-put v) ∙ f);
+      left = refl;
+      shift = refl;
+      scdr = refl;
+    }
+
+-- Stopping the receiver leaves the transmitter.
+still-queued : (s r : Sci) (re : Bool) → Queued s r → Queued s (stopped re r)
+still-queued s r true h = h
+still-queued s r false h =
+    record { rises = h .rises; stays = h .stays; falls = h .falls; left = h .left; shift = h .shift; scdr = h .scdr }
+
+queued : (s : Sci) (v : ℕ) (upper lower : Bool) → Queued s (wroteSccr1 s v upper lower)
+unfolding wroteSccr1
+queued s v upper lower =
+    let new : ℕ = merge (sccr1Word s) v upper lower in
+    still-queued s (withSccr1 s new) (RE new) (queues s new)
 
 -- The prescaler.
 others : (s : Sci) (a : Access) → accessed a s .prescaler ≡ s .prescaler
@@ -161,4 +189,4 @@ unfolding bitsDown flagsDown
 mapped = record { sccr1 = λ c. refl; scsr = refl }
 
 pub serial-clauses : SerialClauses
-serial-clauses = record { mapped = mapped; stops = re-stops; restarts = restarts; reset = refl; paced = paced; request = request }
+serial-clauses = record { mapped = mapped; stops = re-stops; queued = queued; restarts = restarts; reset = refl; paced = paced; request = request }

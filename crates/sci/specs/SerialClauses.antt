@@ -1,4 +1,4 @@
--- Document 01: the clauses on the register map, on RE, on the prescaler and on the request, in any state of the serial half.
+-- Document 01: the clauses on the register map, on RE and TE, on the prescaler and on the request, in any state of the serial half.
 use mathlib.Core.Bool.{Bool, true, false, _&&_, _||_}
 use mathlib.Core.List.{List, [], _∷_}
 use mathlib.Core.Path.{_≡_}
@@ -43,6 +43,15 @@ abbrev pub REStops : Type 0
 REStops =
     (s : Sci) (v : ℕ) (upper lower : Bool) → RE (wroteSccr1 s v upper lower .sccr1) ≡ false → Stopped s (wroteSccr1 s v upper lower)
 
+-- A write of SCCR1 and the transmitter: TE rising queues a preamble; TE falling forgets it, and lets what runs finish.
+pub record Queued (s r : Sci) : Type 0 where
+  pub rises : TE (s .sccr1) ≡ false → TE (r .sccr1) ≡ true → r .transmitter .preamble ≡ true
+  pub stays : TE (s .sccr1) ≡ true → TE (r .sccr1) ≡ true → r .transmitter .preamble ≡ s .transmitter .preamble
+  pub falls : TE (r .sccr1) ≡ false → r .transmitter .preamble ≡ false
+  pub left : r .transmitter .left ≡ s .transmitter .left
+  pub shift : r .transmitter .shift ≡ s .transmitter .shift
+  pub scdr : r .transmitter .scdr ≡ s .transmitter .scdr
+
 -- A changed SCCR0 restarts the prescaler; one that is as it was leaves all as it was, whatever is written to bits that don't exist.
 pub record Restarts (s : Sci) : Type 0 where
   pub changed : (v : ℕ) (upper lower : Bool) → (wroteSccr0 s v upper lower .sccr0 ≡ s .sccr0 → ⊥) →
@@ -82,6 +91,7 @@ someSet (p ∷ ps) scsr sccr1 = (bit (p .flag) scsr && bit (p .enable) sccr1) ||
 pub record SerialClauses : Type 0 where
   pub mapped : Mapped
   pub stops : REStops
+  pub queued : (s : Sci) (v : ℕ) (upper lower : Bool) → Queued s (wroteSccr1 s v upper lower)
   pub restarts : (s : Sci) → Restarts s
   pub reset : resetSci .prescaler ≡ 0
   pub paced : (s : Sci) (x : Bool) → Paced s x
