@@ -14,11 +14,12 @@ use Rattle.sci.specs.declared.serial.Sci.{Sci}
 use Rattle.sci.proofs.Frames.{by-cond}
 use Rattle.sci.proofs.History.{run-append}
 use Rattle.sci.proofs.Follow.{step-sccr1}
-use Rattle.qsm.specs.Map.{decodeWord, decode}
+use Rattle.qsm.specs.Map.{decode}
 use Rattle.qsm.specs.Access.{next}
 use Rattle.qsm.specs.declared.map.SerialWord.the-variants.{Sccr0, Sccr1, Scsr, Scdr}
 use Rattle.qsm.specs.declared.map.Place.{Place}
 use Rattle.qsm.specs.declared.map.Place.the-variants.{Own, Serial, Queue, Hole}
+use Rattle.qsm.proofs.Ranges.{at-word}
 use Rattle.histories.proofs.Words.{wordSteps, storeSteps, isSccr1, placed}
 
 abbrev pub on : Sci → Bool
@@ -60,11 +61,10 @@ off-append (e ∷ es) fs s o p = (o .0, off-append es fs (step e s) (o .1) p)
 
 -- After SCCR1 comes SCSR.
 pub after-sccr1 : (at v : ℕ) (upper lower : Bool) → isSccr1 (decode at) ≡ true → wordSteps (decode (next at)) v upper lower ≡ []
-unfolding decode
 after-sccr1 at v upper lower e =
-    let five : at / 2 ≡ 5 = placed (at / 2) .sccr1 e in
-    let six : (at + 2) % 65536 / 2 ≡ 6 = omega (arith, five) in
-    ap (λ (w : ℕ). wordSteps (decodeWord w) v upper lower) six
+    let five : at / 2 ≡ 5 = placed at .sccr1 e in
+    let six : next at / 2 ≡ 6 = omega (arith, five) in
+    ap (λ (p : Place). wordSteps p v upper lower) (at-word 6 (next at) six)
 
 -- RE rises at the last step, and is clear before it.
 pub record Rise (es : List Step) (s : Sci) : Type 0 where

@@ -38,26 +38,24 @@ touched width offset h₀ h₁ =
 
 first-apart : (width offset : ℕ) → 0 < width → touches 0x08 4 width offset ≡ false →
     (isSccr0 (decode offset) ≡ false) × (isSccr1 (decode offset) ≡ false)
-unfolding decode
 first-apart width offset h t = (
   refuted (isSccr0 (decode offset))
-      (λ e. let w : offset / 2 ≡ 4 = placed (offset / 2) .sccr0 e in
+      (λ e. let w : offset / 2 ≡ 4 = placed offset .sccr0 e in
       true≢false (sym (touched width offset (omega (arith, w)) (omega (arith, w, h))) ∙ t)),
   refuted (isSccr1 (decode offset))
-      (λ e. let w : offset / 2 ≡ 5 = placed (offset / 2) .sccr1 e in
+      (λ e. let w : offset / 2 ≡ 5 = placed offset .sccr1 e in
       true≢false (sym (touched width offset (omega (arith, w)) (omega (arith, w, h))) ∙ t)),
 )
 
 second-apart : (offset : ℕ) → mapped (decode (offset + 2)) ≡ true → touches 0x08 4 4 offset ≡ false →
     (isSccr0 (decode (next offset)) ≡ false) × (isSccr1 (decode (next offset)) ≡ false)
-unfolding decode
 second-apart offset h t =
-    let inside : (offset + 2) / 2 < 168 = placed ((offset + 2) / 2) .inside h in (
+    let inside : offset + 2 < 0x150 = placed (offset + 2) .inside h in (
       refuted (isSccr0 (decode (next offset)))
-          (λ e. let w : (offset + 2) % 65536 / 2 ≡ 4 = placed ((offset + 2) % 65536 / 2) .sccr0 e in
+          (λ e. let w : (offset + 2) % 65536 / 2 ≡ 4 = placed (next offset) .sccr0 e in
           true≢false (sym (touched 4 offset (omega (arith, w, inside)) (omega (arith, w, inside))) ∙ t)),
       refuted (isSccr1 (decode (next offset)))
-          (λ e. let w : (offset + 2) % 65536 / 2 ≡ 5 = placed ((offset + 2) % 65536 / 2) .sccr1 e in
+          (λ e. let w : (offset + 2) % 65536 / 2 ≡ 5 = placed (next offset) .sccr1 e in
           true≢false (sym (touched 4 offset (omega (arith, w, inside)) (omega (arith, w, inside))) ∙ t)),
     )
 

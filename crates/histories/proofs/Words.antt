@@ -4,8 +4,6 @@ use mathlib.Core.Bool.{Bool, true, false, cond, _||_, true≢false, false≢true
 use mathlib.Core.List.{List, [], _∷_, _++_}
 use Prim.Native.Nat.{ℕ, _<_, _*_, _/_, _%_}
 use native.Mathlib.Omega.{arith}
-use borrow.Author.Tests.{eqb-true, ltb-true}
-use lib.Dec.{eqb, ltb}
 use Rattle.steps.specs.Iterate.{iterate}
 use Rattle.sci.specs.Serial.{dataWritten}
 use Rattle.sci.specs.History.{Step, writesSccr0, writesSccr1, writesScdr, step, run, ops, watched, Unbroken}
@@ -13,7 +11,7 @@ use Rattle.sci.specs.Overrun.{log}
 use Rattle.sci.specs.declared.serial.Sci.{Sci}
 use Rattle.sci.proofs.Frames.{by-cond}
 use Rattle.sci.proofs.History.{run-append, ops-append, watched-append, log-append, writes-sccr0, writes-sccr1}
-use Rattle.qsm.specs.Map.{decodeRam, decodeWord, decode, mapped}
+use Rattle.qsm.specs.Map.{from, decode, mapped}
 use Rattle.qsm.specs.Own.{putOwn}
 use Rattle.qsm.specs.Serial.{putSerial, serialGuarded}
 use Rattle.qsm.specs.Word.{put, guarded}
@@ -25,6 +23,7 @@ use Rattle.qsm.specs.declared.map.SerialWord.the-variants.{Sccr0, Sccr1, Scsr, 
 use Rattle.qsm.specs.declared.map.Place.{Place}
 use Rattle.qsm.specs.declared.map.Place.the-variants.{Own, Serial, Queue, Hole}
 use Rattle.qsm.specs.declared.state.Module.{Module}
+use Rattle.qsm.proofs.Ranges.{bounds}
 
 abbrev pub serialSteps : SerialWord → ℕ → Bool → Bool → List Step
 serialSteps Sccr0 v upper lower = writesSccr0 v upper lower ∷ []
@@ -167,51 +166,44 @@ isSccr1 (Serial Scdr) = false
 isSccr1 (Queue w) = false
 isSccr1 Hole = false
 
-pub record Placed (w : ℕ) (p : Place) : Type 0 where
-  pub sccr0 : isSccr0 p ≡ true → w ≡ 4
-  pub sccr1 : isSccr1 p ≡ true → w ≡ 5
-  pub inside : mapped p ≡ true → w < 168
+-- Where a byte stands whose place is SCCR0, SCCR1 or in the map at all.
+pub record Placed (b : ℕ) (p : Place) : Type 0 where
+  pub sccr0 : isSccr0 p ≡ true → b / 2 ≡ 4
+  pub sccr1 : isSccr1 p ≡ true → b / 2 ≡ 5
+  pub inside : mapped p ≡ true → b < 0x150
 
 no : {A : Type 0} → false ≡ true → A
 no e = absurd (false≢true e)
 
-placed-ram : (w : ℕ) → Placed w (decodeRam w)
-unfolding decodeRam
-placed-ram w =
-    by-cond (Placed w) (ltb w 128) (λ e. record { sccr0 = no; sccr1 = no; inside = no })
-    (λ e₀. by-cond (Placed w) (ltb w 144)
-    (λ e. record { sccr0 = no; sccr1 = no; inside = λ _. omega (arith, ltb-true w 144 e) })
-    (λ e₁. by-cond (Placed w) (ltb w 160)
-    (λ e. record { sccr0 = no; sccr1 = no; inside = λ _. omega (arith, ltb-true w 160 e) })
-    (λ e₂. by-cond (Placed w) (ltb w 168)
-    (λ e. record { sccr0 = no; sccr1 = no; inside = λ _. ltb-true w 168 e })
-    (λ e. record { sccr0 = no; sccr1 = no; inside = no }))))
-
-at-other : (w k : ℕ) (p : Place) → isSccr0 p ≡ false → isSccr1 p ≡ false → k < 168 → eqb w k ≡ true → Placed w p
-at-other w k p h₀ h₁ h e =
+at-other : (first last b : ℕ) (p : Place) → isSccr0 p ≡ false → isSccr1 p ≡ false → last < 0x150 → from first last b ≡ true → Placed b p
+at-other first last b p h₀ h₁ h e =
     record {
       sccr0 = λ t. absurd (true≢false (sym t ∙ h₀));
       sccr1 = λ t. absurd (true≢false (sym t ∙ h₁));
-      inside = λ _. omega (arith, h, eqb-true w k e);
+      inside = λ _. omega (arith, h, bounds first last b e);
     }
 
-pub placed : (w : ℕ) → Placed w (decodeWord w)
-placed w =
-    by-cond (Placed w) (eqb w 0) (at-other w 0 _ refl refl (omega arith))
-    (λ _. by-cond (Placed w) (eqb w 2) (at-other w 2 _ refl refl (omega arith))
-    (λ _. by-cond (Placed w) (eqb w 4)
-    (λ e. record { sccr0 = λ _. eqb-true w 4 e; sccr1 = no; inside = λ _. omega (arith, eqb-true w 4 e) })
-    (λ _. by-cond (Placed w) (eqb w 5)
-    (λ e. record { sccr0 = no; sccr1 = λ _. eqb-true w 5 e; inside = λ _. omega (arith, eqb-true w 5 e) })
-    (λ _. by-cond (Placed w) (eqb w 6) (at-other w 6 _ refl refl (omega arith))
-    (λ _. by-cond (Placed w) (eqb w 7) (at-other w 7 _ refl refl (omega arith))
-    (λ _. by-cond (Placed w) (eqb w 10) (at-other w 10 _ refl refl (omega arith))
-    (λ _. by-cond (Placed w) (eqb w 11) (at-other w 11 _ refl refl (omega arith))
-    (λ _. by-cond (Placed w) (eqb w 12) (at-other w 12 _ refl refl (omega arith))
-    (λ _. by-cond (Placed w) (eqb w 13) (at-other w 13 _ refl refl (omega arith))
-    (λ _. by-cond (Placed w) (eqb w 14) (at-other w 14 _ refl refl (omega arith))
-    (λ _. by-cond (Placed w) (eqb w 15) (at-other w 15 _ refl refl (omega arith))
-    (λ _. placed-ram w))))))))))))
+pub placed : (b : ℕ) → Placed b (decode b)
+unfolding decode
+placed b =
+    by-cond (Placed b) (from 0x00 0x01 b) (at-other 0x00 0x01 b _ refl refl (omega arith))
+    (λ _. by-cond (Placed b) (from 0x04 0x05 b) (at-other 0x04 0x05 b _ refl refl (omega arith))
+    (λ _. by-cond (Placed b) (from 0x08 0x09 b)
+    (λ e. record { sccr0 = λ _. omega (arith, bounds 0x08 0x09 b e); sccr1 = no; inside = λ _. omega (arith, bounds 0x08 0x09 b e) })
+    (λ _. by-cond (Placed b) (from 0x0A 0x0B b)
+    (λ e. record { sccr0 = no; sccr1 = λ _. omega (arith, bounds 0x0A 0x0B b e); inside = λ _. omega (arith, bounds 0x0A 0x0B b e) })
+    (λ _. by-cond (Placed b) (from 0x0C 0x0D b) (at-other 0x0C 0x0D b _ refl refl (omega arith))
+    (λ _. by-cond (Placed b) (from 0x0E 0x0F b) (at-other 0x0E 0x0F b _ refl refl (omega arith))
+    (λ _. by-cond (Placed b) (from 0x14 0x15 b) (at-other 0x14 0x15 b _ refl refl (omega arith))
+    (λ _. by-cond (Placed b) (from 0x16 0x17 b) (at-other 0x16 0x17 b _ refl refl (omega arith))
+    (λ _. by-cond (Placed b) (from 0x18 0x19 b) (at-other 0x18 0x19 b _ refl refl (omega arith))
+    (λ _. by-cond (Placed b) (from 0x1A 0x1B b) (at-other 0x1A 0x1B b _ refl refl (omega arith))
+    (λ _. by-cond (Placed b) (from 0x1C 0x1D b) (at-other 0x1C 0x1D b _ refl refl (omega arith))
+    (λ _. by-cond (Placed b) (from 0x1E 0x1F b) (at-other 0x1E 0x1F b _ refl refl (omega arith))
+    (λ _. by-cond (Placed b) (from 0x100 0x11F b) (at-other 0x100 0x11F b _ refl refl (omega arith))
+    (λ _. by-cond (Placed b) (from 0x120 0x13F b) (at-other 0x120 0x13F b _ refl refl (omega arith))
+    (λ _. by-cond (Placed b) (from 0x140 0x14F b) (at-other 0x140 0x14F b _ refl refl (omega arith))
+    (λ _. record { sccr0 = no; sccr1 = no; inside = no })))))))))))))))
 
 -- A word that is neither SCCR0 nor SCCR1 breaks nothing.
 pub word-unbroken : (p : Place) (v : ℕ) (upper lower : Bool) (s : Sci) → isSccr0 p ≡ false → isSccr1 p ≡ false →

@@ -1,7 +1,7 @@
 -- Document 01, Register map: offsets from the module's base, decoded by ranges into single registers, three RAM blocks and holes.
-use mathlib.Core.Bool.{Bool, true, false, cond}
+use mathlib.Core.Bool.{Bool, true, false, cond, _&&_}
 use Prim.Native.Nat.{ℕ, _-_, _/_}
-use lib.Dec.{eqb, ltb}
+use lib.Dec.{leb}
 use Rattle.qsm.specs.declared.map.OwnWord.{OwnWord}
 use Rattle.qsm.specs.declared.map.OwnWord.the-variants.{Qsmcr, QilrQivr, Portqs, PqsparDdrqs}
 use Rattle.qsm.specs.declared.map.SerialWord.the-variants.{Sccr0, Sccr1, Scsr, Scdr}
@@ -9,31 +9,28 @@ use Rattle.qsm.specs.declared.map.QueueWord.the-variants.{Spcr0, Spcr1, 
 use Rattle.qsm.specs.declared.map.Place.{Place}
 use Rattle.qsm.specs.declared.map.Place.the-variants.{Own, Serial, Queue, Hole}
 
--- The queue RAM: 100-11F, 120-13F, 140-14F, by words.
-unfoldable pub decodeRam : ℕ → Place
-decodeRam w =
-    cond (ltb w 128) Hole
-    (cond (ltb w 144) (Queue (Receive (w - 128)))
-    (cond (ltb w 160) (Queue (Transmit (w - 144))) (cond (ltb w 168) (Queue (Command (w - 160))) Hole)))
+-- The bytes from the first to the last.
+abbrev pub from : ℕ → ℕ → ℕ → Bool
+from first last b = leb first b && leb b last
 
--- The registers, by words: byte 14 is in the map beside PORTQS.
-abbrev pub decodeWord : ℕ → Place
-decodeWord w =
-    cond (eqb w 0) (Own Qsmcr)
-    (cond (eqb w 2) (Own QilrQivr)
-    (cond (eqb w 4) (Serial Sccr0)
-    (cond (eqb w 5) (Serial Sccr1)
-    (cond (eqb w 6) (Serial Scsr)
-    (cond (eqb w 7) (Serial Scdr)
-    (cond (eqb w 10) (Own Portqs)
-    (cond (eqb w 11) (Own PqsparDdrqs)
-    (cond (eqb w 12) (Queue Spcr0)
-    (cond (eqb w 13) (Queue Spcr1)
-    (cond (eqb w 14) (Queue Spcr2) (cond (eqb w 15) (Queue Spcr3Spsr) (decodeRam w))))))))))))
-
--- The word that holds the byte at an offset.
+-- The word that holds the byte at an offset. Byte 14 is in the map beside PORTQS; in the RAM, words are numbered in each block.
 unfoldable pub decode : ℕ → Place
-decode offset = decodeWord (offset / 2)
+decode b =
+    cond (from 0x00 0x01 b) (Own Qsmcr)
+    (cond (from 0x04 0x05 b) (Own QilrQivr)
+    (cond (from 0x08 0x09 b) (Serial Sccr0)
+    (cond (from 0x0A 0x0B b) (Serial Sccr1)
+    (cond (from 0x0C 0x0D b) (Serial Scsr)
+    (cond (from 0x0E 0x0F b) (Serial Scdr)
+    (cond (from 0x14 0x15 b) (Own Portqs)
+    (cond (from 0x16 0x17 b) (Own PqsparDdrqs)
+    (cond (from 0x18 0x19 b) (Queue Spcr0)
+    (cond (from 0x1A 0x1B b) (Queue Spcr1)
+    (cond (from 0x1C 0x1D b) (Queue Spcr2)
+    (cond (from 0x1E 0x1F b) (Queue Spcr3Spsr)
+    (cond (from 0x100 0x11F b) (Queue (Receive ((b - 0x100) / 2)))
+    (cond (from 0x120 0x13F b) (Queue (Transmit ((b - 0x120) / 2)))
+    (cond (from 0x140 0x14F b) (Queue (Command ((b - 0x140) / 2))) Hole))))))))))))))
 
 abbrev pub mapped : Place → Bool
 mapped (Own w) = true

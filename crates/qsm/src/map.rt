@@ -1,6 +1,6 @@
 // The register map: an offset decoded into a word of the module's own registers, of the serial half, of the queue half, or a hole.
 ghost use mathlib.Core.Path.{_≡_};
-ghost use Rattle.qsm.specs.Map.{decodeRam, decode, mapped, ownRestricted, restricted};
+ghost use Rattle.qsm.specs.Map.{decode, mapped, ownRestricted, restricted};
 
 pub enum OwnWord {
     Qsmcr,
@@ -34,46 +34,29 @@ pub enum Place {
     Hole,
 }
 
-// The queue RAM: receive words at 100-11F, transmit words at 120-13F, command bytes at 140-14F.
-fn decode_ram(w: u32) -> Place
-    ensures { λ r. ⌜ r ≡ decodeRam w ⌝ }
-{
-    if w < 128 {
-        return Place::Hole;
-    }
-    if w < 144 {
-        return Place::Queue(QueueWord::Receive((w - 128) as u8));
-    }
-    if w < 160 {
-        return Place::Queue(QueueWord::Transmit((w - 144) as u8));
-    }
-    if w < 168 {
-        Place::Queue(QueueWord::Command((w - 160) as u8))
-    } else {
-        Place::Hole
-    }
-}
-
-// The word that holds the byte at an offset.
+// The word that holds the byte at an offset, by the offset of its upper byte. Byte 14 is in the map beside PORTQS.
 // Ruled out: a hole beside a register taken for it; the last byte of a block taken for the next.
 pub fn decode(offset: u32) -> Place
     ensures { λ r. ⌜ r ≡ decode offset ⌝ }
 {
-    let w = offset / 2;
-    match w {
-        0 => Place::Own(OwnWord::Qsmcr),
-        2 => Place::Own(OwnWord::QilrQivr),
-        4 => Place::Serial(SerialWord::Sccr0),
-        5 => Place::Serial(SerialWord::Sccr1),
-        6 => Place::Serial(SerialWord::Scsr),
-        7 => Place::Serial(SerialWord::Scdr),
-        10 => Place::Own(OwnWord::Portqs),
-        11 => Place::Own(OwnWord::PqsparDdrqs),
-        12 => Place::Queue(QueueWord::Spcr0),
-        13 => Place::Queue(QueueWord::Spcr1),
-        14 => Place::Queue(QueueWord::Spcr2),
-        15 => Place::Queue(QueueWord::Spcr3Spsr),
-        _ => decode_ram(w),
+    let word = offset / 2 * 2;
+    match word {
+        0x00 => Place::Own(OwnWord::Qsmcr),
+        0x04 => Place::Own(OwnWord::QilrQivr),
+        0x08 => Place::Serial(SerialWord::Sccr0),
+        0x0A => Place::Serial(SerialWord::Sccr1),
+        0x0C => Place::Serial(SerialWord::Scsr),
+        0x0E => Place::Serial(SerialWord::Scdr),
+        0x14 => Place::Own(OwnWord::Portqs),
+        0x16 => Place::Own(OwnWord::PqsparDdrqs),
+        0x18 => Place::Queue(QueueWord::Spcr0),
+        0x1A => Place::Queue(QueueWord::Spcr1),
+        0x1C => Place::Queue(QueueWord::Spcr2),
+        0x1E => Place::Queue(QueueWord::Spcr3Spsr),
+        0x100..=0x11F => Place::Queue(QueueWord::Receive(((word - 0x100) / 2) as u8)),
+        0x120..=0x13F => Place::Queue(QueueWord::Transmit(((word - 0x120) / 2) as u8)),
+        0x140..=0x14F => Place::Queue(QueueWord::Command(((word - 0x140) / 2) as u8)),
+        _ => Place::Hole,
     }
 }
 

@@ -4,12 +4,13 @@ use mathlib.Core.Bool.{Bool, true, false, not, _&&_, _||_}
 use Prim.Native.Nat.{ℕ, _+_, _/_, _%_, _^_, _<_, _≤_}
 use native.Mathlib.Omega.{arith}
 use lib.Dec.{eqb, ltb, leb}
-use borrow.Author.Tests.{le-leb, le-ltb, ne-eqb, lt-leb, ltb-true, ltb-false}
-use Rattle.qsm.specs.Map.{decode, decodeRam, decodeWord, mapped}
+use borrow.Author.Tests.{le-leb, lt-leb, ltb-true, ltb-false}
+use Rattle.qsm.specs.Map.{decode, mapped}
 use Rattle.qsm.specs.Map as map
 use Rattle.qsm.specs.Lanes.{inMap, isRestricted}
 use Rattle.qsm.specs.Decision.{shaped, fits, barred}
 use Rattle.qsm.specs.declared.state.Module.{Module}
+use Rattle.qsm.proofs.Ranges.{by-words, at-word, past-map}
 use Rattle.rules.specs.Refusals.{touches, misshapen, malformed, hole, unmapped, restricted, unprivileged}
 use Rattle.rules.proofs.Tests.{widths, odd, even, at-or-above, every, every-at, same, same-eq, or-true, absurd-bool}
 
@@ -33,56 +34,18 @@ malformed-is w o v small =
 -- ---- the map by bytes
 
 holes-small : every (λ b. same (hole b) (not (mapped (decode b)))) 0x150 ≡ true
-unfolding decode decodeRam
+unfolding decode
 holes-small = refl
 
 restricted-small : every (λ b. same (restricted b) (map.restricted (decode b))) 0x150 ≡ true
-unfolding decode decodeRam
+unfolding decode
 restricted-small = refl
 
 above-map : (b : ℕ) → 0x150 ≤ b → mapped (decode b) ≡ false
-unfolding decode decodeRam
-above-map b h =
-    simp (
-      ne-eqb (b / 2) 0 (λ z. omega arith),
-      ne-eqb (b / 2) 2 (λ z. omega arith),
-      ne-eqb (b / 2) 4 (λ z. omega arith),
-      ne-eqb (b / 2) 5 (λ z. omega arith),
-      ne-eqb (b / 2) 6 (λ z. omega arith),
-      ne-eqb (b / 2) 7 (λ z. omega arith),
-      ne-eqb (b / 2) 10 (λ z. omega arith),
-      ne-eqb (b / 2) 11 (λ z. omega arith),
-      ne-eqb (b / 2) 12 (λ z. omega arith),
-      ne-eqb (b / 2) 13 (λ z. omega arith),
-      ne-eqb (b / 2) 14 (λ z. omega arith),
-      ne-eqb (b / 2) 15 (λ z. omega arith),
-      le-ltb (b / 2) 128 (omega arith),
-      le-ltb (b / 2) 144 (omega arith),
-      le-ltb (b / 2) 160 (omega arith),
-      le-ltb (b / 2) 168 (omega arith),
-    )
+above-map b h = rw (past-map b h)
 
 above-restricted : (b : ℕ) → 0x150 ≤ b → map.restricted (decode b) ≡ false
-unfolding decode decodeRam
-above-restricted b h =
-    simp (
-      ne-eqb (b / 2) 0 (λ z. omega arith),
-      ne-eqb (b / 2) 2 (λ z. omega arith),
-      ne-eqb (b / 2) 4 (λ z. omega arith),
-      ne-eqb (b / 2) 5 (λ z. omega arith),
-      ne-eqb (b / 2) 6 (λ z. omega arith),
-      ne-eqb (b / 2) 7 (λ z. omega arith),
-      ne-eqb (b / 2) 10 (λ z. omega arith),
-      ne-eqb (b / 2) 11 (λ z. omega arith),
-      ne-eqb (b / 2) 12 (λ z. omega arith),
-      ne-eqb (b / 2) 13 (λ z. omega arith),
-      ne-eqb (b / 2) 14 (λ z. omega arith),
-      ne-eqb (b / 2) 15 (λ z. omega arith),
-      le-ltb (b / 2) 128 (omega arith),
-      le-ltb (b / 2) 144 (omega arith),
-      le-ltb (b / 2) 160 (omega arith),
-      le-ltb (b / 2) 168 (omega arith),
-    )
+above-restricted b h = rw (past-map b h)
 
 hole-by : (t : Bool) (b : ℕ) → ltb b 0x150 ≡ t → hole b ≡ not (mapped (decode b))
 hole-by true b is =
@@ -108,8 +71,7 @@ restricted-is b = restricted-by (ltb b 0x150) b refl
 
 -- The two bytes of a word are in one place.
 pub beside : (o : ℕ) → o % 2 ≡ 0 → decode (o + 1) ≡ decode o
-unfolding decode
-beside o h = let e : (o + 1) / 2 ≡ o / 2 = omega arith in ap decodeWord e
+beside o h = let e : (o + 1) / 2 ≡ o / 2 = omega arith in at-word (o / 2) (o + 1) e ∙ sym (by-words o)
 
 two-on : (o : ℕ) → o + 1 + 1 ≡ o + 2
 two-on o = omega arith

@@ -14,7 +14,7 @@ use Rattle.sci.specs.Marked.{samples, K1, K2, K3, K4, K5, K6, K11}
 use Rattle.qspi.proofs.Marked.{k7, k8, k9, k10}
 use Rattle.qspi.specs.Registers.{reset}
 use Rattle.qsm.specs.State.{resetModule}
-use Rattle.qsm.specs.Map.{decode, decodeRam}
+use Rattle.qsm.specs.Map.{decode}
 use Rattle.qsm.specs.Lanes.{inMap, isRestricted}
 use Rattle.qsm.specs.Word.{peek}
 use Rattle.qsm.specs.Serial.{peekSerial, serialRead}
@@ -75,7 +75,7 @@ two m room enough =
     (play-none (step (step m Reset .state) (event.Access (Read true 2 0x0C)) .state) [] (room - 10 - 10) refl))
 
 k12 : K12
-unfolding has step does resets reads answerOf afterRead readValue refused resetModule reset request mask owned ownLevels levels decideRead admitted inMap isRestricted decode decodeRam fetched fetch iterate peek peekSerial serialRead queueRead markSeen
+unfolding has step does resets reads answerOf afterRead readValue refused resetModule reset request mask owned ownLevels levels decideRead admitted inMap isRestricted decode fetched fetch iterate peek peekSerial serialRead queueRead markSeen
 k12 m room enough = (ap (λ (o : Outcome). o .answers) (two m room enough), ap (λ (o : Outcome). o .stop) (two m room enough))
 
 pub marked : Marked

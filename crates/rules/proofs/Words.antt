@@ -3,10 +3,10 @@ use mathlib.Core.Path.{_≡_, refl, sym, subst, _∙_}
 use mathlib.Core.Bool.{Bool, true, false, cond, not, _&&_, _||_}
 use Prim.Native.Nat.{ℕ, _+_, _*_, _/_, _%_, _<_}
 use native.Mathlib.Omega.{arith}
-use lib.Dec.{eqb, ltb}
+use lib.Dec.{eqb}
 use Rattle.steps.specs.Iterate.{iterate}
 use Rattle.sci.specs.Serial.{sccr0Guarded, sccr1Guarded}
-use Rattle.qsm.specs.Map.{decode, decodeRam, decodeWord, mapped}
+use Rattle.qsm.specs.Map.{from, decode, mapped}
 use Rattle.qsm.specs.Own.{ownUnmodelled}
 use Rattle.qsm.specs.Serial.{serialUnmodelled, serialGuarded}
 use Rattle.qsm.specs.Queue.{queueUnmodelled, queueGuarded}
@@ -19,6 +19,7 @@ use Rattle.qsm.specs.declared.map.Place.{Place}
 use Rattle.qsm.specs.declared.map.Place.the-variants.{Queue, Hole}
 use Rattle.qsm.specs.declared.map.QueueWord.the-variants.{Receive, Transmit, Command}
 use Rattle.qsm.specs.declared.state.Module.{Module}
+use Rattle.qsm.proofs.Ranges.{decodeWord, by-words}
 use Rattle.rules.specs.Refusals.{setsUnmodelled, changesGuarded, unmodelled, guarded}
 use Rattle.rules.proofs.Tests.{split, widths, absurd-bool}
 use Rattle.rules.proofs.Bytes.{in-map-below}
@@ -41,28 +42,27 @@ by-word P w p0 p2 p4 p5 p6 p7 p10 p11 p12 p13 p14 p15 rest =
     split w 14 (λ e. subst P (sym e) p14) (λ n14.
     split w 15 (λ e. subst P (sym e) p15) (λ n15. rest n0 n2 n4 n5 n6 n7 n10 n11 n12 n13 n14 n15))))))))))))
 
-ram-unmodelled : (m : Module) (a b c d : Bool) (i j k v : ℕ) (upper lower : Bool) →
-    places.unmodelled m (cond a Hole (cond b (Queue (Receive i)) (cond c (Queue (Transmit j)) (cond d (Queue (Command k)) Hole)))) v upper lower ≡ false
+ram-unmodelled : (m : Module) (a b c : Bool) (i j k v : ℕ) (upper lower : Bool) →
+    places.unmodelled m (cond a (Queue (Receive i)) (cond b (Queue (Transmit j)) (cond c (Queue (Command k)) Hole))) v upper lower ≡ false
 unfolding places.unmodelled queueUnmodelled
-ram-unmodelled m true b c d i j k v upper lower = refl
-ram-unmodelled m false true c d i j k v upper lower = refl
-ram-unmodelled m false false true d i j k v upper lower = refl
-ram-unmodelled m false false false true i j k v upper lower = refl
-ram-unmodelled m false false false false i j k v upper lower = refl
+ram-unmodelled m true b c i j k v upper lower = refl
+ram-unmodelled m false true c i j k v upper lower = refl
+ram-unmodelled m false false true i j k v upper lower = refl
+ram-unmodelled m false false false i j k v upper lower = refl
 
-ram-guarded : (m : Module) (a b c d : Bool) (i j k v : ℕ) (upper lower : Bool) →
-    places.guarded m (cond a Hole (cond b (Queue (Receive i)) (cond c (Queue (Transmit j)) (cond d (Queue (Command k)) Hole)))) v upper lower ≡ false
+ram-guarded : (m : Module) (a b c : Bool) (i j k v : ℕ) (upper lower : Bool) →
+    places.guarded m (cond a (Queue (Receive i)) (cond b (Queue (Transmit j)) (cond c (Queue (Command k)) Hole))) v upper lower ≡ false
 unfolding places.guarded queueGuarded
-ram-guarded m true b c d i j k v upper lower = refl
-ram-guarded m false true c d i j k v upper lower = refl
-ram-guarded m false false true d i j k v upper lower = refl
-ram-guarded m false false false true i j k v upper lower = refl
-ram-guarded m false false false false i j k v upper lower = refl
+ram-guarded m true b c i j k v upper lower = refl
+ram-guarded m false true c i j k v upper lower = refl
+ram-guarded m false false true i j k v upper lower = refl
+ram-guarded m false false false i j k v upper lower = refl
 
 sets-is : (m : Module) (o v : ℕ) (upper lower : Bool) → places.unmodelled m (decode o) v upper lower ≡ setsUnmodelled m o v upper lower
-unfolding decode decodeRam places.unmodelled ownUnmodelled serialUnmodelled queueUnmodelled
+unfolding places.unmodelled ownUnmodelled serialUnmodelled queueUnmodelled
 sets-is m o v upper lower =
-    by-word (λ w. places.unmodelled m (decodeWord w) v upper lower ≡
+    rw (by-words o)
+    (by-word (λ w. places.unmodelled m (decodeWord w) v upper lower ≡
     cond (eqb w 0) (upper && not (eqb (v / 8192 % 8) 0))
     (cond (eqb w 5) (places.unmodelled m (decodeWord 5) v upper lower)
     (cond (eqb w 12) (places.unmodelled m (decodeWord 12) v upper lower)
@@ -71,12 +71,13 @@ sets-is m o v upper lower =
     refl refl refl refl refl refl refl refl refl refl refl refl
     (λ n0 n2 n4 n5 n6 n7 n10 n11 n12 n13 n14 n15.
     simp (n0, n2, n4, n5, n6, n7, n10, n11, n12, n13, n14, n15)
-    (ram-unmodelled m (ltb (o / 2) 128) (ltb (o / 2) 144) (ltb (o / 2) 160) (ltb (o / 2) 168) _ _ _ v upper lower))
+    (ram-unmodelled m (from 128 143 (o / 2)) (from 144 159 (o / 2)) (from 160 167 (o / 2)) _ _ _ v upper lower)))
 
 changes-is : (m : Module) (o v : ℕ) (upper lower : Bool) → places.guarded m (decode o) v upper lower ≡ changesGuarded m o v upper lower
-unfolding decode decodeRam places.guarded serialGuarded queueGuarded sccr0Guarded sccr1Guarded
+unfolding places.guarded serialGuarded queueGuarded sccr0Guarded sccr1Guarded
 changes-is m o v upper lower =
-    by-word (λ w. places.guarded m (decodeWord w) v upper lower ≡
+    rw (by-words o)
+    (by-word (λ w. places.guarded m (decodeWord w) v upper lower ≡
     cond (eqb w 4) (places.guarded m (decodeWord 4) v upper lower)
     (cond (eqb w 5) (places.guarded m (decodeWord 5) v upper lower)
     (cond (eqb w 12) (places.guarded m (decodeWord 12) v upper lower)
@@ -84,7 +85,7 @@ changes-is m o v upper lower =
     refl refl refl refl refl refl refl refl refl refl refl refl
     (λ n0 n2 n4 n5 n6 n7 n10 n11 n12 n13 n14 n15.
     simp (n0, n2, n4, n5, n6, n7, n10, n11, n12, n13, n14, n15)
-    (ram-guarded m (ltb (o / 2) 128) (ltb (o / 2) 144) (ltb (o / 2) 160) (ltb (o / 2) 168) _ _ _ v upper lower))
+    (ram-guarded m (from 128 143 (o / 2)) (from 144 159 (o / 2)) (from 160 167 (o / 2)) _ _ _ v upper lower)))
 
 -- ---- the words of a write
 

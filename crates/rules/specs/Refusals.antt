@@ -6,7 +6,7 @@ use Rattle.steps.specs.Bits.{bit, word, merge}
 use Rattle.sci.specs.Transmitter.{runs}
 use Rattle.sci.specs.declared.serial.Sci.{Sci}
 use Rattle.qspi.specs.declared.Qspi.{Qspi}
-use Rattle.qsm.specs.Map.{decode}
+use Rattle.qsm.specs.Map.{from, decode}
 use Rattle.qsm.specs.Word.{put}
 use Rattle.qsm.specs.Lanes.{upperLane, lowerLane}
 use Rattle.qsm.specs.declared.state.Module.{Module}
@@ -15,9 +15,6 @@ use Rattle.qsm.specs.declared.state.Module.{Module}
 abbrev pub touches : (ℕ → Bool) → ℕ → ℕ → Bool
 touches f offset zero = false
 touches f offset (suc n) = f offset || touches f (offset + 1) n
-
-abbrev pub from : ℕ → ℕ → ℕ → Bool
-from first last b = leb first b && leb b last
 
 -- 1: width not 1, 2 or 4; odd offset with 2 or 4.
 abbrev pub misshapen : ℕ → ℕ → Bool
