@@ -10,3 +10,4 @@ pub mod Lanes
 pub mod Access
 pub mod Decision
 pub mod Event
+pub mod Holds

@@ -3,6 +3,7 @@
 pub mod access;
 pub mod decision;
 pub mod event;
+mod holds;
 pub mod lanes;
 pub mod map;
 pub mod own;

@@ -1,0 +1,11 @@
+// What is shown of holds: however its clocks are cut into holds, the same module is left.
+ghost use mathlib.Core.Path.{_≡_};
+ghost use mathlib.Core.Bool.{true};
+ghost use Rattle.qsm.specs.Holds.{HeldInParts};
+
+// Nothing to compute: the contract is the record of the laws, so that none of them can be left out unnoticed.
+fn held_in_parts() -> bool
+    ensures { λ r. ⌜ (r ≡ true) × HeldInParts ⌝ }
+{
+    true
+}
