@@ -1,3 +1,15 @@
 pub mod Clocks
 pub mod Ranges
 pub mod Splitting
+pub mod Reading
+pub mod Booleans
+pub mod StatusFlags
+pub mod Asking
+pub mod Requests
+pub mod PinOwners
+pub mod PinClauses
+pub mod Stored
+pub mod Marks
+pub mod StatusBytes
+pub mod SeenClauses
+pub mod Witness

@@ -11,3 +11,9 @@ pub mod Access
 pub mod Decision
 pub mod Event
 pub mod Holds
+pub mod StatusFlags
+pub mod RequestClauses
+pub mod PinClauses
+pub mod SeenClauses
+pub mod Clauses
+pub mod Witness

@@ -5,6 +5,7 @@ pub mod decision;
 pub mod event;
 mod holds;
 pub mod lanes;
+mod laws;
 pub mod map;
 pub mod own;
 pub mod pins;

@@ -1,0 +1,15 @@
+use mathlib.Core.Path.{refl}
+use Rattle.qsm.proofs.laws.clauses.Statement.{statement}
+use Rattle.qsm.proofs.laws.clauses.Tie as tie
+use Rattle.qsm.proofs.Requests.{requests}
+use Rattle.qsm.proofs.PinClauses.{pins}
+use Rattle.qsm.proofs.Stored.{last-input}
+use Rattle.qsm.proofs.SeenClauses.{seen}
+use Rattle.qsm.proofs.Witness.{met}
+
+returns : tie.Need-returns
+returns c =
+    (refl, record { requests = requests; pins = pins; last-input = last-input; seen = seen; met = met })
+
+pub clauses-spec : {M : Type 1} → statement M
+clauses-spec = tie.close (tie.spec returns)
