@@ -1,25 +1,28 @@
 -- Demand 2.
 -- Assumes nothing.
 use mathlib.Core.Bool.{true, false}
-use mathlib.Core.List.{[]}
 use mathlib.Core.Path.{refl}
 use Prim.Native.Nat.{ℕ, zero, suc}
 use lib.ListN.{replicate}
 use Rattle.sci.specs.Flags.{flag}
-use Rattle.sci.specs.Status.{has}
-use Rattle.sci.specs.Framer.{searching}
-use Rattle.sci.specs.Serial.{clocked}
-use Rattle.sci.specs.Wire.{Wired, clock, step, steps, clocksIn, Word, Unchanged, Matched, Rests, Sends}
+use Rattle.sci.specs.Status.{has, raiseIf, fallIf}
+use Rattle.sci.specs.Framer.{searching, framed}
+use Rattle.sci.specs.Receiver.{outcome, entered, statusAfter, receiverAfter, received}
+use Rattle.sci.specs.Transmitter.{sent}
+use Rattle.sci.specs.Serial.{sampled, clocked}
+use Rattle.sci.specs.Wire.{Wired, clock, step, clocksIn, Frame, begun, Unchanged, Matched, Sends}
 use Rattle.sci.specs.Demand2.{Demand2}
 use Rattle.sci.specs.declared.status.Status.{Status}
 use Rattle.sci.specs.declared.receiver.Receiver.{Receiver}
 use Rattle.sci.specs.declared.serial.Sci.{Sci}
 use Rattle.sci.proofs.Linked.{frames-heard, frames-shown, frames-begin, parity-always, linked}
 use Rattle.sci.proofs.Train.{back-to-back}
-use Rattle.sci.proofs.Wires.{arrives, arrive-in-turn}
+use Rattle.sci.proofs.Stops.{free-at-one}
+use Rattle.sci.proofs.Wires.{arrives, waits, arrive-in-turn}
 use Rattle.sci.proofs.StopBit.{stop-bit-rests, frame-drives}
 
--- SCBR 1, M=0. The sender with TE set and the word 55 (hexadecimal) waiting, at its prescaler's last count; the receiver with RE set, after three ones.
+-- SCBR 1, M=0. The sender with TE set and the word 55 (hexadecimal) waiting, at its prescaler's last count; the receiver with RE set,
+-- after two ones: its third comes in the clock in which the frame begins.
 abbrev quiet : Status
 quiet = record { flags = flag 0; seen = flag 0 }
 
@@ -29,8 +32,8 @@ listening =
       framer = searching;
       last1 = true;
       last2 = true;
-      last3 = true;
-      idle = 3;
+      last3 = false;
+      idle = 2;
       since = false;
       asleep = false;
       scdr = 0;
@@ -48,28 +51,10 @@ at sccr1 prescaler word =
     }
 
 abbrev two : Wired
-two = record { sender = at 8 1 0x55; receiver = at 4 0 0 }
+two = record { sender = at 8 1 0x55; receiver = at 4 1 0 }
 
-abbrev one : Word
-one = record { idle = []; first = true; later = replicate 306 (clock true); last = true }
-
-two-match : Matched two
-unfolding has
-two-match =
-    record {
-      rate = refl;
-      same = refl;
-      on = refl;
-      ready =
-          record {
-            awake = refl;
-            searches = refl;
-            ones = refl;
-            rdrf = refl;
-            idle = refl;
-            errors = record { or = refl; nf = refl; fe = refl; pf = refl };
-          };
-    }
+abbrev one : Frame
+one = record { first = true; later = replicate 307 (clock true); last = true }
 
 all-clocks : (n : ℕ) (q : Wired) → Unchanged (replicate n (clock true)) q
 unfolding Unchanged
@@ -77,8 +62,22 @@ all-clocks zero q = tt
 all-clocks (suc n) q = all-clocks n (step (clock true) q)
 
 one-sends : Sends one two
-unfolding has Unchanged Rests step steps clocksIn clocked
-one-sends = record { before = tt; after = all-clocks 306 (step (clock true) two); rests = tt; begins = record { rests = refl; sample = refl; frame = refl }; last = refl }
+unfolding has step clocksIn clocked sampled
+one-sends = record { begins = record { sample = refl; frame = refl }; unchanged = all-clocks 307 (begun one two); last = refl }
+
+one-match : Matched (begun one two)
+unfolding has step clocked sampled sent received receiverAfter outcome statusAfter entered framed raiseIf fallIf
+one-match =
+    record {
+      rate = refl;
+      same = refl;
+      on = refl;
+      awake = refl;
+      searches = refl;
+      ones = refl;
+      rdrf = refl;
+      errors = record { or = refl; nf = refl; fe = refl; pf = refl };
+    }
 
 pub demand2 : Demand2
 demand2 =
@@ -90,8 +89,10 @@ demand2 =
       linked = linked;
       backToBack = back-to-back;
       arrives = arrives;
+      waits = waits;
       inTurn = arrive-in-turn;
       stopBit = stop-bit-rests;
       drives = frame-drives;
-      met = (two, one, two-match, one-sends);
+      atOne = free-at-one;
+      met = (two, one, one-sends, one-match);
     }

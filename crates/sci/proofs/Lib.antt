@@ -31,8 +31,10 @@ pub mod Heeding
 pub mod Timing
 pub mod Waiting
 pub mod Registers
+pub mod Unchanged
 pub mod Pace
 pub mod Paired
+pub mod Stops
 pub mod Wires
 pub mod StopBit
 pub mod Demand2

@@ -100,8 +100,8 @@ stages-free [] = refl
 stages-free (sample x ∷ os) = stages-free os
 stages-free (read scsr scdr ∷ os) = stages-free os
 
-ready-clean : (s : Status) → NoError s → Clean s
-ready-clean s h =
+pub clean : (s : Status) → NoError s → Clean s
+clean s h =
     record { pf = sym (has-flag 0 s) ∙ h .pf; fe = sym (has-flag 1 s) ∙ h .fe; nf = sym (has-flag 2 s) ∙ h .nf; or = sym (has-flag 3 s) ∙ h .or }
 
 pub ready-rested : (p : Received) → Ready p → Rested free p
@@ -110,7 +110,7 @@ ready-rested p r =
       searches = r .searches;
       ones = r .ones;
       awake = r .awake;
-      clean = ready-clean (p .status) (r .errors);
+      clean = clean (p .status) (r .errors);
       rdrf = sym (has-flag 6 (p .status)) ∙ r .rdrf;
     }
 

@@ -16,7 +16,7 @@ use Rattle.sci.specs.Wire.{Access, readStatus, readData, writeData, writ
 use Rattle.sci.specs.declared.status.Status.{Status}
 use Rattle.sci.specs.declared.transmitter.Transmitter.{Transmitter}
 use Rattle.sci.specs.declared.serial.Sci.{Sci}
-use Rattle.sci.proofs.Membership.{and-left}
+use Rattle.sci.proofs.Membership.{and-left, and-right}
 use Rattle.sci.proofs.Flagged.{isSet, set-markSeen, raise-off, raise-keeps, fall-keeps, fallSeen-clear}
 use Rattle.sci.proofs.Sending.{Sending, keeps-sending, begins-sending, no-frame}
 use Rattle.sci.proofs.Samples.{transmit-flags}
@@ -63,19 +63,30 @@ sender-access n w k P p s (writeControl v upper lower) h = go (RE (merge (sccr1W
     go true = record { sending = record { left = h .sending .left; shift = h .sending .shift }; rate = h .rate; count = h .count }
     go false = record { sending = record { left = h .sending .left; shift = h .sending .shift }; rate = h .rate; count = h .count }
 
+-- A frame begins with TE set and the shifter free.
+begins-both : (s : Sci) → beginsFrame (s .transmitter) (s .status) (s .sccr1) ≡ true → TE (s .sccr1) && free′ (s .transmitter) ≡ true
+begins-both s e =
+    and-left (TE (s .sccr1) && free′ (s .transmitter)) (not (s .transmitter .preamble))
+    (and-left (TE (s .sccr1) && free′ (s .transmitter) && not (s .transmitter .preamble)) (not (has (s .status) TDRE)) e)
+
+pub begins-te : (s : Sci) → beginsFrame (s .transmitter) (s .status) (s .sccr1) ≡ true → TE (s .sccr1) ≡ true
+begins-te s e = and-left (TE (s .sccr1)) (free′ (s .transmitter)) (begins-both s e)
+
+pub begins-free : (s : Sci) → beginsFrame (s .transmitter) (s .status) (s .sccr1) ≡ true → free′ (s .transmitter) ≡ true
+begins-free s e = and-right (TE (s .sccr1)) (free′ (s .transmitter)) (begins-both s e)
+
+pub begins-active : (s : Sci) → beginsFrame (s .transmitter) (s .status) (s .sccr1) ≡ true → active s ≡ true
+begins-active s e = te-active s (begins-te s e)
+
 -- The clock at which the frame begins.
 pub sender-begins : (s : Sci) (x : Bool) → due s ≡ true → beginsFrame (s .transmitter) (s .status) (s .sccr1) ≡ true →
     SenderAt (bitsOf (M (s .sccr1))) (dataBits (s .sccr1) (s .transmitter .scdr)) 0 (2 * SCBR (s .sccr0)) 0 (clocked s x)
 sender-begins s x d e =
-    let t : TE (s .sccr1) ≡ true =
-    and-left (TE (s .sccr1)) (free′ (s .transmitter))
-    (and-left (TE (s .sccr1) && free′ (s .transmitter)) (not (s .transmitter .preamble))
-    (and-left (TE (s .sccr1) && free′ (s .transmitter) && not (s .transmitter .preamble)) (not (has (s .status) TDRE)) e)) in
     let m : Sampled s (sampled s x) = sample-leaves s x in
     subst
     (λ (r : Sci).
     SenderAt (bitsOf (M (s .sccr1))) (dataBits (s .sccr1) (s .transmitter .scdr)) 0 (2 * SCBR (s .sccr0)) 0 r)
-    (sym (samples s x (te-active s t) d))
+    (sym (samples s x (begins-active s e) d))
     (record {
       sending =
           subst (λ (r : Transmitter). Sending (bitsOf (M (s .sccr1))) (dataBits (s .sccr1) (s .transmitter .scdr)) 0 r)

@@ -120,7 +120,6 @@ stop-bit-rests q x es later b low e =
       last = one-left;
       next = λ e te p.
           record {
-            rests = one;
             sample = ends;
             frame =
                 begins-next (steps later (steps es q₁) .sender) te one-left p

@@ -1,4 +1,4 @@
--- One clock and one access of a serial half whose receiver waits for a frame, and the clock at which the frame begins.
+-- One clock and one access of a serial half whose receiver waits for a frame.
 -- Assumes nothing.
 use Prim.Native.Nat.{ℕ, _+_, _*_, _<_}
 use mathlib.Core.Path.{_≡_, refl, ap, sym, subst, _∙_}
@@ -20,10 +20,9 @@ use Rattle.sci.specs.declared.receiver.Received.{Received}
 use Rattle.sci.specs.declared.serial.Sci.{Sci}
 use Rattle.sci.proofs.Stages.{clean-clear, Stage}
 use Rattle.sci.proofs.Going.{lineOf, Rested, start, Going, going-sample}
-use Rattle.sci.proofs.Linked.{same-M}
 use Rattle.sci.proofs.Sampling.{samples, counts, Sampled, sample-leaves, re-active}
 use Rattle.sci.proofs.Heeding.{rested-sent, heeded, Untouched, untouched}
-use Rattle.sci.proofs.Timing.{sample-heard, ReceiverAt, told}
+use Rattle.sci.proofs.Timing.{sample-heard}
 
 -- The receiver before the frame begins: any count.
 pub record WaitingAt (c : ℕ) (s₀ : Sci) (st : Stage) (s : Sci) : Type 0 where
@@ -89,59 +88,15 @@ waiting-clock c s₀ st s x one h = go (due s) refl
           rate = m .sccr0 ∙ h .rate;
         })
 
--- The clock at which the frame begins: the receiver may still take a one.
-pub record Started (c : ℕ) (bits : List Bool) (st : Stage) (P : ℕ) (s : Sci) : Type 0 where
-  pub g : ℕ
-  pub at : ReceiverAt c g bits st g P (s .prescaler) s
-  pub small : s .prescaler < P
-
-pub starting : (c : ℕ) (bits : List Bool) (st : Stage) (P : ℕ) (s₀ s : Sci) (x : Bool) → bitsOf (M c) ≡ length bits → x ≡ true → 0 < P →
-    2 * SCBR (s₀ .sccr0) ≡ P → WaitingAt c s₀ st s → Started c bits st P (clocked s x)
-starting c bits st P s₀ s x sized one pos rate h = go (due s) refl
+-- After a clock the count is below a sample's clocks.
+pub count-small : (s : Sci) (x : Bool) → RE (s .sccr1) ≡ true → 0 < 2 * SCBR (s .sccr0) → clocked s x .prescaler < 2 * SCBR (s .sccr0)
+count-small s x on pos = go (due s) refl
   where
-    per : 2 * SCBR (s .sccr0) ≡ P
-    per = ap (λ (v : ℕ). 2 * SCBR v) (h .rate) ∙ rate
-
-    go : (b : Bool) → due s ≡ b → Started c bits st P (clocked s x)
+    go : (b : Bool) → due s ≡ b → clocked s x .prescaler < 2 * SCBR (s .sccr0)
     go false d =
         let y : leb (2 * SCBR (s .sccr0)) (s .prescaler + 1) ≡ false =
         sym (ap (λ (b : Bool). not b && leb (2 * SCBR (s .sccr0)) (s .prescaler + 1))
-        (ne-eqb (2 * SCBR (s .sccr0)) 0 (λ v. omega (arith, per)))) ∙ d in
+        (ne-eqb (2 * SCBR (s .sccr0)) 0 (λ v. omega arith))) ∙ d in
         let l : s .prescaler + 1 < 2 * SCBR (s .sccr0) = leb-false (2 * SCBR (s .sccr0)) (s .prescaler + 1) y in
-        subst (λ (r : Sci). Started c bits st P r) (sym (counts s x (re-active s (h .on)) d))
-        (record {
-          g = 0;
-          at =
-              record {
-                going = start (bitsOf (M c)) 0 bits st (hearing s) (h .rested);
-                control = h .control;
-                on = h .on;
-                rate = per;
-                count = refl;
-              };
-          small = omega (arith, per);
-        })
-    go true d =
-        let told : Received = record { receiver = s .receiver; status = sent (s .transmitter) (s .status) (s .sccr1) .status } in
-        let m : Sampled s (sampled s x) = sample-leaves s x in
-        let n : bitsOf (M (s .sccr1)) ≡ bitsOf (M c) = ap bitsOf (same-M (s .sccr1) c (h .control)) in
-        let e : hearing (sampled s x) ≡ received (s .receiver) (told .status) (s .sccr1) true =
-        sample-heard s x (h .on) ∙ ap (λ (b : Bool). received (s .receiver) (told .status) (s .sccr1) b) one in
-        subst (λ (r : Sci). Started c bits st P r) (sym (samples s x (re-active s (h .on)) d))
-        (record {
-          g = 1;
-          at =
-              record {
-                going =
-                    subst (λ (r : Received). Going (bitsOf (M c)) 1 (lineOf 1 bits) 1 st r) (sym e)
-                    (subst (λ (i : ℕ). Going i 1 (lineOf 1 bits) 1 st (received (s .receiver) (told .status) (s .sccr1) true)) n
-                    (going-sample (s .sccr1) 1 bits (n ∙ sized) 0 st told true
-                    (start (bitsOf (M (s .sccr1))) 1 bits st told (rested-sent st (hearing s) (s .transmitter) (s .sccr1) (h .rested)))
-                    refl (omega arith)));
-                control = ap settings (m .sccr1) ∙ h .control;
-                on = ap RE (m .sccr1) ∙ h .on;
-                rate = ap (λ (v : ℕ). 2 * SCBR v) (m .sccr0) ∙ per;
-                count = refl;
-              };
-          small = omega (arith, m .prescaler);
-        })
+        rw (counts s x (re-active s on) d) (omega arith)
+    go true d = rw (samples s x (re-active s on) d) (omega (arith, sample-leaves s x .prescaler))

@@ -2,7 +2,7 @@
 -- same rate and settings that searches after three ones with no receive flag set, neither of them reset or reconfigured.
 use Rattle.sci.specs.Link.{FramesHeard, FramesBegin, FramesShown, ParityRight, Linked}
 use Rattle.sci.specs.BackToBack.{BackToBack}
-use Rattle.sci.specs.Wire.{Wired, Word, Matched, Sends, Arrives, ArriveInTurn, StopBitRests, FrameDrives}
+use Rattle.sci.specs.Wire.{Wired, Frame, begun, Matched, Sends, Arrives, Waits, ArriveInTurn, FreeAtOne, StopBitRests, FrameDrives}
 
 pub record Demand2 : Type 0 where
   -- Frames of any number of bits, at the receiver and at the transmitter.
@@ -15,8 +15,10 @@ pub record Demand2 : Type 0 where
   pub backToBack : BackToBack
   -- Clock by clock.
   pub arrives : Arrives
+  pub waits : Waits
   pub inTurn : ArriveInTurn
   pub stopBit : StopBitRests
   pub drives : FrameDrives
+  pub atOne : FreeAtOne
   -- What is asked of the two can be met.
-  pub met : (q : Wired) × (u : Word) × Matched q × Sends u q
+  pub met : (q : Wired) × (f : Frame) × Sends f q × Matched (begun f q)

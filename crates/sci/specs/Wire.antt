@@ -3,14 +3,17 @@ use mathlib.Core.Bool.{Bool, true, false}
 use mathlib.Core.List.{List, [], _∷_, _++_}
 use mathlib.Core.Path.{_≡_}
 use Prim.Native.Nat.{ℕ, suc, _+_, _*_, _%_, _^_, _≤_, _<_}
-use Rattle.sci.specs.Flags.{TDRE}
+use Rattle.sci.specs.Flags.{RDRF, TDRE}
 use Rattle.sci.specs.Status.{has}
 use Rattle.sci.specs.Control.{SCBR, M, TE, RE, bitsOf, frameSamples, settings}
-use Rattle.sci.specs.Transmitter.{beginsFrame}
-use Rattle.sci.specs.Serial.{due, clocked, statusRead, dataRead, loaded, wroteSccr1, txdDriven, txd}
+use Rattle.sci.specs.Framer.{searching}
+use Rattle.sci.specs.Receiver.{three}
+use Rattle.sci.specs.Transmitter.{free, beginsFrame}
+use Rattle.sci.specs.Serial.{resetSci, due, clocked, statusRead, dataRead, loaded, wroteSccr1, txdDriven, txd}
 use Rattle.sci.specs.Levels.{endSample}
 use Rattle.sci.specs.Line.{Op, read}
-use Rattle.sci.specs.Link.{dataBits, Ready, Delivered}
+use Rattle.sci.specs.History as history
+use Rattle.sci.specs.Link.{dataBits, NoError, Delivered}
 use Rattle.sci.specs.BackToBack.{readsBoth}
 use Rattle.sci.specs.declared.receiver.Received.{Received as Heard}
 use Rattle.sci.specs.declared.serial.Sci.{Sci}
@@ -80,12 +83,16 @@ Unchanged (atSender a ∷ es) q =
     (settings (accessed a (q .sender) .sccr1) ≡ settings (q .sender .sccr1)) × Unchanged es (step (atSender a) q)
 Unchanged (atReceiver a ∷ es) q = Same (q .receiver) (accessed a (q .receiver)) × Unchanged es (step (atReceiver a) q)
 
--- The same rate and settings; the receiver on, awake, searching after three ones with no receive flag set.
+-- The same rate and settings; the receiver on, awake, searching after three ones, with neither RDRF nor an error flag set. (IDLE may be.)
 pub record Matched (q : Wired) : Type 0 where
   pub rate : SCBR (q .sender .sccr0) ≡ SCBR (q .receiver .sccr0)
   pub same : settings (q .sender .sccr1) ≡ settings (q .receiver .sccr1)
   pub on : RE (q .receiver .sccr1) ≡ true
-  pub ready : Ready (hearing (q .receiver))
+  pub awake : q .receiver .receiver .asleep ≡ false
+  pub searches : q .receiver .receiver .framer ≡ searching
+  pub ones : three (q .receiver .receiver) ≡ true
+  pub rdrf : has (q .receiver .status) RDRF ≡ false
+  pub errors : NoError (q .receiver .status)
 
 -- The sender's TXD rests at one before each of these clocks.
 unfoldable pub Rests : List Step → Wired → Type 0
@@ -96,23 +103,20 @@ Rests (atReceiver a ∷ es) q = Rests es (step (atReceiver a) q)
 
 -- At the next clock the sender takes a sample and begins a frame.
 pub record Begins (q : Wired) : Type 0 where
-  pub rests : txd (q .sender) ≡ true
   pub sample : due (q .sender) ≡ true
   pub frame : beginsFrame (q .sender .transmitter) (q .sender .status) (q .sender .sccr1) ≡ true
 
--- A word on the wire: the steps until its frame begins, the clock at which it begins, the steps from there to its last sample at the
--- receiver, and that clock.
-pub record Word : Type 0 where
-  pub idle : List Step
+-- A frame on the wire: the clock at which it begins, the steps from there to its last sample at the receiver, and that clock.
+pub record Frame : Type 0 where
   pub first : Bool
   pub later : List Step
   pub last : Bool
 
-abbrev pub begun : Word → Wired → Wired
-begun u q = step (clock (u .first)) (steps (u .idle) q)
+abbrev pub begun : Frame → Wired → Wired
+begun f q = step (clock (f .first)) q
 
-abbrev pub ended : Word → Wired → Wired
-ended u q = step (clock (u .last)) (steps (u .later) (begun u q))
+abbrev pub ended : Frame → Wired → Wired
+ended f q = step (clock (f .last)) (steps (f .later) (begun f q))
 
 -- The clocks of a sample, and the data bits of a frame.
 abbrev pub period : Wired → ℕ
@@ -122,39 +126,57 @@ abbrev pub width : Wired → ℕ
 width q = bitsOf (M (q .sender .sccr1))
 
 -- From the receiver's count when the frame has begun, its last sample is so many clocks away.
-pub record Sends (u : Word) (q : Wired) : Type 0 where
-  -- Neither is reconfigured.
-  pub before : Unchanged (u .idle) q
-  pub after : Unchanged (u .later) (begun u q)
-  pub rests : Rests (u .idle) q
-  pub begins : Begins (steps (u .idle) q)
-  pub last : suc (clocksIn (u .later)) + begun u q .receiver .prescaler ≡ suc (endSample (width q)) * period q
+pub record Sends (f : Frame) (q : Wired) : Type 0 where
+  pub begins : Begins q
+  pub unchanged : Unchanged (f .later) (begun f q)
+  pub last : suc (clocksIn (f .later)) + begun f q .receiver .prescaler ≡ suc (endSample (width q)) * period q
 
 -- The data bits sent are in SCDR, with no error flag.
-abbrev pub Received : Word → Wired → Type 0
-Received u q =
-    Delivered (dataBits (q .sender .sccr1) (steps (u .idle) q .sender .transmitter .scdr) % 2 ^ width q) (hearing (ended u q .receiver))
+abbrev pub Received : Frame → Wired → Type 0
+Received f q =
+    Delivered (dataBits (q .sender .sccr1) (q .sender .transmitter .scdr) % 2 ^ width q) (hearing (ended f q .receiver))
 
--- Whatever the counts of the two prescalers.
+-- Whatever the counts of the two prescalers. The receiver is ready when the frame has begun: the level in that clock is still the one
+-- before the start bit, and may be the last of its three ones.
 abbrev pub Arrives : Type 0
-Arrives = (q : Wired) (u : Word) → Matched q → Sends u q → Received u q
+Arrives = (q : Wired) (f : Frame) → Sends f q → Matched (begun f q) → Received f q
 
--- Words one after another, with or without pause: status, then data, is read between a frame's end and the next one's.
+-- While TXD rests at one a receiver that is ready stays so, whatever is read and written.
+abbrev pub Waits : Type 0
+Waits = (q : Wired) (es : List Step) → Matched q → Unchanged es q → Rests es q → Matched (steps es q)
+
+-- Words one after another, with or without pause: what happens until a word's frame begins, with TXD at one, and the frame.
+pub record Word : Type 0 where
+  pub idle : List Step
+  pub frame : Frame
+
+pub record Follows (u : Word) (q : Wired) : Type 0 where
+  pub unchanged : Unchanged (u .idle) q
+  pub rests : Rests (u .idle) q
+  pub sends : Sends (u .frame) (steps (u .idle) q)
+
 unfoldable pub AllSent : List Word → Wired → Type 0
 AllSent [] q = Unit {0}
-AllSent (u ∷ us) q = Sends u q × AllSent us (ended u q)
+AllSent (u ∷ us) q = Follows u q × AllSent us (ended (u .frame) (steps (u .idle) q))
 
+-- Status, then data, is read between a frame's end and the next one's.
 unfoldable pub AllRead : List Word → Type 0
 AllRead [] = Unit {0}
-AllRead (u ∷ us) = (readsBoth (readsOf (u .idle) ++ readsOf (u .later)) ≡ true) × AllRead us
+AllRead (u ∷ us) = (readsBoth (readsOf (u .idle) ++ readsOf (u .frame .later)) ≡ true) × AllRead us
 
 unfoldable pub AllReceived : List Word → Wired → Type 0
 AllReceived [] q = Unit {0}
-AllReceived (u ∷ us) q = Received u q × AllReceived us (ended u q)
+AllReceived (u ∷ us) q = Received (u .frame) (steps (u .idle) q) × AllReceived us (ended (u .frame) (steps (u .idle) q))
 
 abbrev pub ArriveInTurn : Type 0
 ArriveInTurn =
-    (q : Wired) (u : Word) (us : List Word) → Matched q → AllSent (u ∷ us) q → AllRead us → AllReceived (u ∷ us) q
+    (q : Wired) (f : Frame) (us : List Word) → Sends f q → Matched (begun f q) → AllSent us (ended f q) → AllRead us →
+    Received f q × AllReceived us (ended f q)
+
+-- Since a reset TXD is at one wherever the shifter is free: a frame ends with its stop bit, a preamble shows ones, and nothing else runs.
+-- So it is at one when a frame begins.
+abbrev pub FreeAtOne : Type 0
+FreeAtOne = (es : List history.Step) → free (history.run es resetSci .transmitter) ≡ true → txd (history.run es resetSci) ≡ true
 
 -- Without pause: from the stop bit on TXD rests at one, until at the frame's last clock its last sample is due and the shifter is free.
 pub record StopBit (es : List Step) (q : Wired) : Type 0 where
