@@ -1,39 +1,41 @@
 -- Demand 2, lifted from two serial halves to two modules.
-use mathlib.Core.Path.{_≡_, refl, ap, sym, subst, _∙_}
-use mathlib.Core.Bool.{true}
+use mathlib.Core.Path.{_≡_, ap, sym, subst, _∙_}
+use mathlib.Core.Bool.{Bool, true, _||_}
 use mathlib.Core.List.{List, [], _∷_}
 use Prim.Native.Nat.{ℕ, suc, _+_, _*_, _%_, _^_, _<_, _≤_}
 use native.Mathlib.Omega.{arith}
 use native.Mathlib.Nat.{mul-le-mul-right}
-use Rattle.sci.specs.Control.{SCBR, frameSamples}
+use Rattle.sci.specs.Control.{frameSamples}
+use Rattle.sci.specs.Transmitter.{runs, free}
 use Rattle.sci.specs.Serial.{txdDriven, txd}
 use Rattle.sci.specs.Levels.{endSample}
 use Rattle.sci.specs.Link.{dataBits, Delivered}
-use Rattle.sci.specs.Wire.{Wired, steps, step, Unchanged, hearing}
+use Rattle.sci.specs.Wire.{Wired, steps, step, hearing, Matched}
 use Rattle.sci.specs.Wire as wire
 use Rattle.sci.specs.declared.serial.Sci.{Sci}
-use Rattle.sci.proofs.Settings.{same-bits}
-use Rattle.sci.proofs.Registers.{Registers, clock-registers, access-registers}
+use Rattle.sci.proofs.Sender.{begins-te, begins-free}
 use Rattle.sci.proofs.StopBit.{frame-drives}
+use Rattle.sci.proofs.Stops.{free-at-one}
 use Rattle.sci.proofs.Wires as half
-use Rattle.histories.specs.Demand2.{Two, halves, line, clock, play, clocksIn, Word, begun, ended, period, width, Begins, Sends, Received, Arrives, AllSent, AllRead, AllReceived, ArriveInTurn, Demand2}
-use Rattle.histories.proofs.Pin.{line-driven, line-rests, pin-shows}
+use Rattle.qsm.specs.State.{resetModule}
+use Rattle.qsm.specs.declared.state.Module.{Module}
+use Rattle.histories.specs.History.{run}
+use Rattle.histories.specs.Demand2.{Two, halves, line, clock, play, clocksIn, Frame, begun, ended, period, width, Begins, Sends, Received, Arrives, Waits, Word, AllSent, AllRead, AllReceived, ArriveInTurn, BeginsAtOne}
+use Rattle.histories.proofs.Lifted.{all, from-reset}
+use Rattle.histories.proofs.Pin.{line-driven}
 use Rattle.histories.proofs.Joined.{Plain, project, clock-halves, project-steps, project-unchanged, project-rests, project-clocks, rests-plain, Drives, drives-plain}
 use Rattle.histories.proofs.Reading.{project-both}
-use Rattle.histories.proofs.Stopping.{stop-bit}
-use Rattle.histories.proofs.Sent.{two, one, other, two-match, both-sent, both-read}
 
--- Nothing on the wire changes the sender's rate and settings.
-together : {s r t : Sci} → Registers s r → Registers r t → Registers s t
-together a b = record { sccr0 = b .sccr0 ∙ a .sccr0; control = b .control ∙ a .control }
+-- A module that begins a frame drives the line.
+pub begins-driven : (m : Module) → Begins m → txdDriven (m .sci) ≡ true
+begins-driven m b = ap (λ (t : Bool). t || runs (m .sci .transmitter)) (begins-te (m .sci) (b .frame))
 
-keeps : (es : List wire.Step) (q : Wired) → Unchanged es q → Registers (q .sender) (steps es q .sender)
-unfolding Unchanged steps step
-keeps [] q un = record { sccr0 = refl; control = refl }
-keeps (wire.clock x ∷ es) q un = together (clock-registers (q .sender) x) (keeps es (step (wire.clock x) q) un)
-keeps (wire.atSender e ∷ es) q un =
-    together (access-registers (q .sender) e (un .0)) (keeps es (step (wire.atSender e) q) (un .1))
-keeps (wire.atReceiver e ∷ es) q un = keeps es (step (wire.atReceiver e) q) (un .1)
+-- And the line is at one.
+pub begins-at-one : BeginsAtOne
+begins-at-one es undriven b =
+    let m : Module = run es resetModule in
+    line-driven m undriven (begins-driven m b) ∙ ap txd (from-reset es)
+    ∙ free-at-one (all es resetModule) (subst (λ (s : Sci). free (s .transmitter) ≡ true) (from-reset es) (begins-free (m .sci) (b .frame)))
 
 -- The receiver's last sample comes before the frame's last clock.
 within : (c v n p : ℕ) → suc c + v ≡ suc (endSample n) * p → c < frameSamples n * p
@@ -41,130 +43,133 @@ within c v n p e =
     let l : suc (endSample n) ≤ frameSamples n = omega arith in
     omega (arith, e, mul-le-mul-right p l)
 
-abbrev onWire : Word → Two → wire.Word
-onWire u q =
-    record {
-      idle = project (u .idle) q;
-      first = u .first .rxd;
-      later = project (u .later) (begun u q);
-      last = u .last .rxd;
-    }
+abbrev pub onWire : Frame → Two → wire.Frame
+onWire f q = record { first = f .first .rxd; later = project (f .later) (begun f q); last = f .last .rxd }
 
-module _ (u : Word) (q : Two) (d : Sends u q) where
-  abbrev a : Two
-  a = play (u .idle) q
-
+module _ (f : Frame) (q : Two) (d : Sends f q) where
   abbrev b : Two
-  b = begun u q
-
-  idle-plain : Plain (u .idle) q
-  idle-plain = rests-plain (u .idle) q (d .rests)
-
-  at-idle : steps (project (u .idle) q) (halves q) ≡ halves a
-  at-idle = project-steps (u .idle) q (d .before) idle-plain
-
-  first-plain : line (a .sender) (u .first .undriven) ≡ txd (a .sender .sci)
-  first-plain = line-rests (a .sender) (u .first .undriven) (d .begins .rests)
-
-  begins : wire.Begins (halves a)
-  begins = record { rests = sym first-plain ∙ d .begins .rests; sample = d .begins .sample; frame = d .begins .frame }
-
-  at-begun : wire.begun (onWire u q) (halves q) ≡ halves b
-  at-begun = ap (step (wire.clock (u .first .rxd))) at-idle ∙ clock-halves (u .first) a first-plain
-
-  fixed : Registers (q .sender .sci) (a .sender .sci)
-  fixed =
-      subst (λ (w : Wired). Registers (q .sender .sci) (w .sender)) at-idle
-      (keeps (project (u .idle) q) (halves q) (project-unchanged (u .idle) q (d .before) idle-plain))
+  b = begun f q
 
   abbrev n : ℕ
-  n = frameSamples (width a) * period a
+  n = frameSamples (width q) * period q
+
+  begins : wire.Begins (halves q)
+  begins = record { sample = d .begins .sample; frame = d .begins .frame }
+
+  pub at-begun : wire.begun (onWire f q) (halves q) ≡ halves b
+  at-begun = clock-halves (f .first) q (line-driven (q .sender) (f .first .undriven) (begins-driven (q .sender) (d .begins)))
 
   drives : Drives n (halves b)
   drives fs h =
-      subst (λ (w : Wired). txdDriven (steps fs w .sender) ≡ true) (clock-halves (u .first) a first-plain)
-      (frame-drives (halves a) (u .first .rxd) fs begins h)
+      subst (λ (w : Wired). txdDriven (steps fs w .sender) ≡ true) at-begun (frame-drives (halves q) (f .first .rxd) fs begins h)
 
-  few : clocksIn (u .later) < n
-  few =
-      within (clocksIn (u .later)) (b .receiver .sci .prescaler) (width a) (period a)
-      (d .last ∙ ap (λ (k : ℕ). suc (endSample k) * period q) (sym (same-bits (a .sender .sci .sccr1) (q .sender .sci .sccr1) (fixed .control)))
-      ∙ ap (λ (k : ℕ). suc (endSample (width a)) * (2 * SCBR k)) (sym (fixed .sccr0)))
+  few : clocksIn (f .later) < n
+  few = within (clocksIn (f .later)) (b .receiver .sci .prescaler) (width q) (period q) (d .last)
 
-  later-plain : Plain (u .later) b
-  later-plain = drives-plain (u .later) b n drives (omega (arith, few)) (d .during)
+  later-plain : Plain (f .later) b
+  later-plain = drives-plain (f .later) b n drives (omega (arith, few)) (d .unchanged)
 
-  at-later : steps (project (u .later) b) (halves b) ≡ halves (play (u .later) b)
-  at-later = project-steps (u .later) b (d .during) later-plain
+  at-later : steps (project (f .later) b) (halves b) ≡ halves (play (f .later) b)
+  at-later = project-steps (f .later) b (d .unchanged) later-plain
 
-  last-plain : line (play (u .later) b .sender) (u .last .undriven) ≡ txd (play (u .later) b .sender .sci)
+  last-plain : line (play (f .later) b .sender) (f .last .undriven) ≡ txd (play (f .later) b .sender .sci)
   last-plain =
-      line-driven (play (u .later) b .sender) (u .last .undriven)
+      line-driven (play (f .later) b .sender) (f .last .undriven)
       (subst (λ (w : Wired). txdDriven (w .sender) ≡ true) at-later
-      (drives (project (u .later) b) (subst (λ (k : ℕ). k < n) (sym (project-clocks (u .later) b)) few)))
+      (drives (project (f .later) b) (subst (λ (k : ℕ). k < n) (sym (project-clocks (f .later) b)) few)))
 
-  at-ended : wire.ended (onWire u q) (halves q) ≡ halves (ended u q)
+  pub at-ended : wire.ended (onWire f q) (halves q) ≡ halves (ended f q)
   at-ended =
-      ap (λ (w : Wired). step (wire.clock (u .last .rxd)) (steps (project (u .later) b) w)) at-begun
-      ∙ ap (step (wire.clock (u .last .rxd))) at-later ∙ clock-halves (u .last) (play (u .later) b) last-plain
+      ap (λ (w : Wired). step (wire.clock (f .last .rxd)) (steps (project (f .later) b) w)) at-begun
+      ∙ ap (step (wire.clock (f .last .rxd))) at-later ∙ clock-halves (f .last) (play (f .later) b) last-plain
 
-  sends : wire.Sends (onWire u q) (halves q)
+  sends : wire.Sends (onWire f q) (halves q)
   sends =
       record {
-        before = project-unchanged (u .idle) q (d .before) idle-plain;
-        after = subst (Unchanged (project (u .later) b)) (sym at-begun) (project-unchanged (u .later) b (d .during) later-plain);
-        rests = project-rests (u .idle) q (d .before) idle-plain (d .rests);
-        begins = subst wire.Begins (sym at-idle) begins;
+        begins = begins;
+        unchanged = subst (wire.Unchanged (project (f .later) b)) (sym at-begun) (project-unchanged (f .later) b (d .unchanged) later-plain);
         last =
-            ap (λ (k : ℕ). suc k + wire.begun (onWire u q) (halves q) .receiver .prescaler) (project-clocks (u .later) b)
-            ∙ ap (λ (w : Wired). suc (clocksIn (u .later)) + w .receiver .prescaler) at-begun ∙ d .last;
+            ap (λ (k : ℕ). suc k + wire.begun (onWire f q) (halves q) .receiver .prescaler) (project-clocks (f .later) b)
+            ∙ ap (λ (w : Wired). suc (clocksIn (f .later)) + w .receiver .prescaler) at-begun ∙ d .last;
       }
 
-  received : wire.Received (onWire u q) (halves q) → Received u q
+  matches : Matched (halves b) → Matched (wire.begun (onWire f q) (halves q))
+  matches m = subst Matched (sym at-begun) m
+
+  received : wire.Received (onWire f q) (halves q) → Received f q
   received r =
       subst
       (λ (w : Wired).
-      Delivered (dataBits (q .sender .sci .sccr1) (w .sender .transmitter .scdr) % 2 ^ width q) (hearing (ended u q .receiver .sci)))
-      at-idle
-      (subst
-      (λ (w : Wired).
-      Delivered
-      (dataBits (q .sender .sci .sccr1) (steps (project (u .idle) q) (halves q) .sender .transmitter .scdr) % 2 ^ width q)
-      (hearing (w .receiver)))
-      at-ended r)
+      Delivered (dataBits (q .sender .sci .sccr1) (q .sender .sci .transmitter .scdr) % 2 ^ width q) (hearing (w .receiver)))
+      at-ended r
 
-arrives : Arrives
-arrives q u m d = received u q d (half.arrives (halves q) (onWire u q) m (sends u q d))
+pub arrives : Arrives
+arrives q f d m = received f q d (half.arrives (halves q) (onWire f q) (sends f q d) (matches f q d m))
 
+pub waits : Waits
+waits q es m u r =
+    let p : Plain es q = rests-plain es q r in
+    subst Matched (project-steps es q u p)
+    (half.waits (halves q) (project es q) m (project-unchanged es q u p) (project-rests es q u p r))
+
+-- Words in turn.
 abbrev allOnWire : List Word → Two → List wire.Word
 allOnWire [] q = []
-allOnWire (u ∷ us) q = onWire u q ∷ allOnWire us (ended u q)
+allOnWire (u ∷ us) q =
+    record { idle = project (u .idle) q; frame = onWire (u .frame) (play (u .idle) q) } ∷ allOnWire us (ended (u .frame) (play (u .idle) q))
+
+module _ (u : Word) (us : List Word) (q : Two) (d : AllSent (u ∷ us) q) where
+  abbrev z : Two
+  z = play (u .idle) q
+
+  plain : Plain (u .idle) q
+  plain = rests-plain (u .idle) q (d .0 .rests)
+
+  at-idle : steps (project (u .idle) q) (halves q) ≡ halves z
+  at-idle = project-steps (u .idle) q (d .0 .unchanged) plain
+
+  at-next : wire.ended (onWire (u .frame) z) (steps (project (u .idle) q) (halves q)) ≡ halves (ended (u .frame) z)
+  at-next = ap (wire.ended (onWire (u .frame) z)) at-idle ∙ at-ended (u .frame) z (d .0 .sends)
+
+  follows : wire.Follows (record { idle = project (u .idle) q; frame = onWire (u .frame) z }) (halves q)
+  follows =
+      record {
+        unchanged = project-unchanged (u .idle) q (d .0 .unchanged) plain;
+        rests = project-rests (u .idle) q (d .0 .unchanged) plain (d .0 .rests);
+        sends = subst (wire.Sends (onWire (u .frame) z)) (sym at-idle) (sends (u .frame) z (d .0 .sends));
+      }
 
 all-sent : (us : List Word) (q : Two) → AllSent us q → wire.AllSent (allOnWire us q) (halves q)
 unfolding wire.AllSent
 all-sent [] q d = tt
 all-sent (u ∷ us) q d = (
-  sends u q (d .0),
-  subst (wire.AllSent (allOnWire us (ended u q))) (sym (at-ended u q (d .0))) (all-sent us (ended u q) (d .1)),
+  follows u us q d,
+  subst (wire.AllSent (allOnWire us (ended (u .frame) (play (u .idle) q)))) (sym (at-next u us q d))
+      (all-sent us (ended (u .frame) (play (u .idle) q)) (d .1)),
 )
 
 all-read : (us : List Word) (q : Two) → AllRead us q → wire.AllRead (allOnWire us q)
 unfolding wire.AllRead
 all-read [] q r = tt
-all-read (u ∷ us) q r = (project-both (u .idle) (u .later) q (begun u q) (r .0), all-read us (ended u q) (r .1))
+all-read (u ∷ us) q r = (
+  project-both (u .idle) (u .frame .later) q (begun (u .frame) (play (u .idle) q)) (r .0),
+  all-read us (ended (u .frame) (play (u .idle) q)) (r .1),
+)
 
 all-received : (us : List Word) (q : Two) → AllSent us q → wire.AllReceived (allOnWire us q) (halves q) → AllReceived us q
 unfolding wire.AllReceived
 all-received [] q d r = tt
 all-received (u ∷ us) q d r = (
-  received u q (d .0) (r .0),
-  all-received us (ended u q) (d .1) (subst (wire.AllReceived (allOnWire us (ended u q))) (at-ended u q (d .0)) (r .1)),
+  received (u .frame) (play (u .idle) q) (d .0 .sends)
+      (subst (wire.Received (onWire (u .frame) (play (u .idle) q))) (at-idle u us q d) (r .0)),
+  all-received us (ended (u .frame) (play (u .idle) q)) (d .1)
+      (subst (wire.AllReceived (allOnWire us (ended (u .frame) (play (u .idle) q)))) (at-next u us q d) (r .1)),
 )
 
-arrive-in-turn : ArriveInTurn
-arrive-in-turn q u us m d r =
-    all-received (u ∷ us) q d
-    (half.arrive-in-turn (halves q) (onWire u q) (allOnWire us (ended u q)) m (all-sent (u ∷ us) q d) (all-read us (ended u q) r))
-
-pub demand2 : Demand2
-demand2 = record { arrives = arrives; inTurn = arrive-in-turn; stopBit = stop-bit; pin = pin-shows; met = (two, one, other, two-match, both-sent, both-read) }
+pub arrive-in-turn : ArriveInTurn
+arrive-in-turn q f us d m s r =
+    let g = half.arrive-in-turn (halves q) (onWire f q) (allOnWire us (ended f q)) (sends f q d) (matches f q d m)
+    (subst (wire.AllSent (allOnWire us (ended f q))) (sym (at-ended f q d)) (all-sent us (ended f q) s)) (all-read us (ended f q) r) in (
+      received f q d (g .0),
+      all-received us (ended f q) s (subst (wire.AllReceived (allOnWire us (ended f q))) (at-ended f q d) (g .1)),
+    )

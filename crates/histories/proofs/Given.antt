@@ -1,14 +1,16 @@
--- The accesses of a module as accesses of its serial half, on the wire.
-use mathlib.Core.Path.{_≡_, refl, ap, sym, _∙_}
-use mathlib.Core.Bool.{Bool, true, false, cond, not, true≢false}
+-- The accesses of a module as accesses of its serial half.
+use mathlib.Core.Path.{_≡_, refl, ap, sym, subst, _∙_}
+use mathlib.Core.Bool.{Bool, true, false, cond}
 use mathlib.Core.List.{List, [], _∷_, _++_}
 use Prim.Native.Nat.{ℕ, _/_, _%_, _*_}
 use lib.Dec.{eqb}
-use Rattle.sci.specs.Serial.{sccr0Guarded, sccr1Guarded}
+use borrow.Author.Tests.{eqb-false}
+use Rattle.steps.specs.Bits.{merge}
+use Rattle.sci.specs.Control.{sccr0Bits}
+use Rattle.sci.specs.Serial.{sccr0Set, wroteSccr0, wroteSccr1, sccr0Guarded, sccr1Guarded}
 use Rattle.sci.specs.History.{Step, reset, clock, reads, writesSccr0, writesSccr1, writesScdr}
 use Rattle.sci.specs.History as half
-use Rattle.sci.specs.Wire.{Wired, Access, readStatus, readData, writeData, accessed, atSender, atReceiver, steps, clocksIn, readsOf, Same, Unchanged, Rests}
-use Rattle.sci.specs.Wire as wire
+use Rattle.sci.specs.Wire.{Access, readStatus, readData, writeData, writeControl, accessed}
 use Rattle.sci.specs.declared.serial.Sci.{Sci}
 use Rattle.qsm.specs.Map.{decode}
 use Rattle.qsm.specs.Lanes.{upperLane, lowerLane, lined}
@@ -21,22 +23,23 @@ use Rattle.qsm.specs.declared.state.Module.{Module}
 use Rattle.qsm.specs.declared.event.Access as bus
 use Rattle.qsm.specs.declared.event.Access.the-variants.{Read, Write}
 use Rattle.qsm.specs.declared.event.Event.the-variants as event
-use Rattle.histories.specs.History.{after, receiverRead, breaks}
-use Rattle.histories.proofs.Words.{wordSteps, storeSteps}
+use Rattle.histories.specs.History.{after, receiverRead}
+use Rattle.histories.specs.Demand2.{SameSettings}
+use Rattle.histories.proofs.Words.{wordSteps, storeSteps, isSccr0}
 use Rattle.histories.proofs.Follows as follow
-use Rattle.histories.proofs.Unbroken.{event-unbroken}
+use Rattle.histories.proofs.Parts.{Along, event-along, rate-part}
 
-abbrev pub given : Step → List Access
-given reset = []
-given (clock x) = []
-given (reads scsr scdr) = cond scsr (readStatus ∷ []) [] ++ cond scdr (readData ∷ []) []
-given (writesSccr0 v upper lower) = []
-given (writesSccr1 v upper lower) = []
-given (writesScdr v upper lower) = cond lower (writeData v upper ∷ []) []
+abbrev pub given : Step → Sci → List Access
+given reset s = []
+given (clock x) s = []
+given (reads scsr scdr) s = cond scsr (readStatus ∷ []) [] ++ cond scdr (readData ∷ []) []
+given (writesSccr0 v upper lower) s = []
+given (writesSccr1 v upper lower) s = cond (sccr1Guarded s v upper lower) [] (writeControl v upper lower ∷ [])
+given (writesScdr v upper lower) s = cond lower (writeData v upper ∷ []) []
 
-abbrev pub allGiven : List Step → List Access
-allGiven [] = []
-allGiven (e ∷ es) = given e ++ allGiven es
+abbrev pub allGiven : List Step → Sci → List Access
+allGiven [] s = []
+allGiven (e ∷ es) s = given e s ++ allGiven es (half.step e s)
 
 abbrev pub accessedAll : List Access → Sci → Sci
 accessedAll [] s = s
@@ -47,7 +50,7 @@ accessed-append [] bs s = refl
 accessed-append (a ∷ ks) bs s = accessed-append ks bs (accessed a s)
 
 -- Neither a reset nor a clock.
-abbrev Accesses : Step → Type 0
+abbrev pub Accesses : Step → Type 0
 Accesses reset = ⊥
 Accesses (clock x) = ⊥
 Accesses (reads scsr scdr) = Unit {0}
@@ -55,7 +58,7 @@ Accesses (writesSccr0 v upper lower) = Unit {0}
 Accesses (writesSccr1 v upper lower) = Unit {0}
 Accesses (writesScdr v upper lower) = Unit {0}
 
-abbrev AllAccesses : List Step → Type 0
+abbrev pub AllAccesses : List Step → Type 0
 AllAccesses [] = Unit {0}
 AllAccesses (e ∷ es) = Accesses e × AllAccesses es
 
@@ -63,12 +66,26 @@ accesses-append : (es fs : List Step) → AllAccesses es → AllAccesses fs → 
 accesses-append [] fs h k = k
 accesses-append (e ∷ es) fs h k = (h .0, accesses-append es fs (h .1) k)
 
--- A guarded write does nothing.
-guarded-nothing : (g : Bool) (s t : Sci) → not g ≡ false → s ≡ cond g s t
-guarded-nothing true s t e = refl
-guarded-nothing false s t e = absurd (true≢false e)
+-- A write that leaves SCCR0 as it was does nothing.
+rate-nothing : (g : Bool) (s : Sci) (v : ℕ) (upper lower : Bool) → cond g s (wroteSccr0 s v upper lower) .sccr0 ≡ s .sccr0 →
+    s ≡ cond g s (wroteSccr0 s v upper lower)
+unfolding wroteSccr0
+rate-nothing true s v upper lower h = refl
+rate-nothing false s v upper lower h = go (eqb (sccr0Bits (merge (s .sccr0) v upper lower)) (s .sccr0)) refl h
+  where
+    go : (b : Bool) → eqb (sccr0Bits (merge (s .sccr0) v upper lower)) (s .sccr0) ≡ b →
+        sccr0Set b s (sccr0Bits (merge (s .sccr0) v upper lower)) .sccr0 ≡ s .sccr0 →
+        s ≡ sccr0Set b s (sccr0Bits (merge (s .sccr0) v upper lower))
+    go true e h = refl
+    go false e h = absurd (eqb-false _ _ e h)
 
-given-step : (e : Step) (s : Sci) → Accesses e → half.breaks e s ≡ false → accessedAll (given e) s ≡ half.step e s
+control-given : (g : Bool) (s : Sci) (v : ℕ) (upper lower : Bool) →
+    accessedAll (cond g [] (writeControl v upper lower ∷ [])) s ≡ cond g s (wroteSccr1 s v upper lower)
+unfolding accessed
+control-given true s v upper lower = refl
+control-given false s v upper lower = refl
+
+given-step : (e : Step) (s : Sci) → Accesses e → half.step e s .sccr0 ≡ s .sccr0 → accessedAll (given e s) s ≡ half.step e s
 unfolding accessed half.step
 given-step reset s h b = absurd h
 given-step (clock x) s h b = absurd h
@@ -76,16 +93,21 @@ given-step (reads true true) s h b = refl
 given-step (reads true false) s h b = refl
 given-step (reads false true) s h b = refl
 given-step (reads false false) s h b = refl
-given-step (writesSccr0 v upper lower) s h b = guarded-nothing (sccr0Guarded s v upper lower) s _ b
-given-step (writesSccr1 v upper lower) s h b = guarded-nothing (sccr1Guarded s v upper lower) s _ b
+given-step (writesSccr0 v upper lower) s h b = rate-nothing (sccr0Guarded s v upper lower) s v upper lower b
+given-step (writesSccr1 v upper lower) s h b = control-given (sccr1Guarded s v upper lower) s v upper lower
 given-step (writesScdr v upper true) s h b = refl
 given-step (writesScdr v upper false) s h b = refl
 
-given-steps : (es : List Step) (s : Sci) → AllAccesses es → half.Unbroken es s → accessedAll (allGiven es) s ≡ half.run es s
+-- Each step leaves SCCR0.
+abbrev pub Rated : List Step → Sci → Type 0
+Rated es s = Along (λ (r : Sci). r .sccr0) es s
+
+given-steps : (es : List Step) (s : Sci) → AllAccesses es → Rated es s → accessedAll (allGiven es s) s ≡ half.run es s
 unfolding half.run
 given-steps [] s h u = refl
 given-steps (e ∷ es) s h u =
-    accessed-append (given e) (allGiven es) s ∙ ap (accessedAll (allGiven es)) (given-step e s (h .0) (u .0))
+    accessed-append (given e s) (allGiven es (half.step e s)) s
+    ∙ ap (accessedAll (allGiven es (half.step e s))) (given-step e s (h .0) (u .0))
     ∙ given-steps es (half.step e s) (h .1) (u .1)
 
 word-accesses : (p : Place) (v : ℕ) (upper lower : Bool) → AllAccesses (wordSteps p v upper lower)
@@ -107,7 +129,7 @@ cond-accesses : (b : Bool) (es : List Step) → AllAccesses es → AllAccesses (
 cond-accesses true es h = h
 cond-accesses false es h = tt
 
-event-accesses : (a : bus.Access) (m : Module) → AllAccesses (follow.steps (event.Access a) m)
+pub event-accesses : (a : bus.Access) (m : Module) → AllAccesses (follow.steps (event.Access a) m)
 event-accesses (Read supervisor width offset) m =
     cond-accesses (receiverRead m supervisor width offset) _ (tt, tt)
 event-accesses (Write supervisor width offset value) m =
@@ -116,125 +138,59 @@ event-accesses (Write supervisor width offset value) m =
 
 -- The accesses of the serial half that an access of the module makes.
 abbrev pub makes : bus.Access → Module → List Access
-makes a m = allGiven (follow.steps (event.Access a) m)
+makes a m = allGiven (follow.steps (event.Access a) m) (m .sci)
 
-pub access-half : (a : bus.Access) (m : Module) → breaks (event.Access a) m ≡ false →
+pub rates : (a : bus.Access) (m : Module) → SameSettings m (after (event.Access a) m) → Rated (follow.steps (event.Access a) m) (m .sci)
+rates a m h = event-along isSccr0 (λ (s : Sci). s .sccr0) rate-part a m (h .rate)
+
+pub access-half : (a : bus.Access) (m : Module) → SameSettings m (after (event.Access a) m) →
     accessedAll (makes a m) (m .sci) ≡ after (event.Access a) m .sci
 access-half a m h =
-    given-steps (follow.steps (event.Access a) m) (m .sci) (event-accesses a m) (event-unbroken (event.Access a) m h)
+    given-steps (follow.steps (event.Access a) m) (m .sci) (event-accesses a m) (rates a m h)
     ∙ sym (follow.follows (event.Access a) m)
 
--- None of them reconfigures.
-abbrev Keeps : Access → Type 0
-Keeps a = (s : Sci) → Same s (accessed a s)
+-- None of them reconfigures: what K says of the half before and after each.
+abbrev pub Kept : (Sci → Sci → Type 0) → List Access → Sci → Type 0
+Kept K [] s = Unit {0}
+Kept K (a ∷ ks) s = K s (accessed a s) × Kept K ks (accessed a s)
 
-abbrev pub AllKeep : List Access → Type 0
-AllKeep [] = Unit {0}
-AllKeep (a ∷ ks) = Keeps a × AllKeep ks
+abbrev pub AlongBy : (Sci → Sci → Type 0) → List Step → Sci → Type 0
+AlongBy K [] s = Unit {0}
+AlongBy K (e ∷ es) s = K s (half.step e s) × AlongBy K es (half.step e s)
 
-keep-append : (ks bs : List Access) → AllKeep ks → AllKeep bs → AllKeep (ks ++ bs)
-keep-append [] bs h k = k
-keep-append (a ∷ ks) bs h k = (h .0, keep-append ks bs (h .1) k)
+-- Of reads and of writes of SCDR K holds always.
+pub record Mild (K : Sci → Sci → Type 0) : Type 0 where
+  pub status : (s : Sci) → K s (accessed readStatus s)
+  pub fetch : (s : Sci) → K s (accessed readData s)
+  pub write : (v : ℕ) (upper : Bool) (s : Sci) → K s (accessed (writeData v upper) s)
 
-status-keeps : Keeps readStatus
-unfolding accessed
-status-keeps s = record { set = refl; on = refl; asleep = refl }
+module _ (K : Sci → Sci → Type 0) (mild : Mild K) where
+  kept-append : (ks bs : List Access) (s : Sci) → Kept K ks s → Kept K bs (accessedAll ks s) → Kept K (ks ++ bs) s
+  kept-append [] bs s h k = k
+  kept-append (a ∷ ks) bs s h k = (h .0, kept-append ks bs (accessed a s) (h .1) k)
 
-data-keeps : Keeps readData
-unfolding accessed
-data-keeps s = record { set = refl; on = refl; asleep = refl }
+  control-kept : (g : Bool) (s : Sci) (v : ℕ) (upper lower : Bool) → K s (cond g s (wroteSccr1 s v upper lower)) →
+      Kept K (cond g [] (writeControl v upper lower ∷ [])) s
+  unfolding accessed
+  control-kept true s v upper lower h = tt
+  control-kept false s v upper lower h = (h, tt)
 
-write-keeps : (v : ℕ) (upper : Bool) → Keeps (writeData v upper)
-unfolding accessed
-write-keeps v upper s = record { set = refl; on = refl; asleep = refl }
+  given-kept : (e : Step) (s : Sci) → K s (half.step e s) → Kept K (given e s) s
+  unfolding half.step
+  given-kept reset s h = tt
+  given-kept (clock x) s h = tt
+  given-kept (reads true true) s h = (mild .status s, (mild .fetch (accessed readStatus s), tt))
+  given-kept (reads true false) s h = (mild .status s, tt)
+  given-kept (reads false true) s h = (mild .fetch s, tt)
+  given-kept (reads false false) s h = tt
+  given-kept (writesSccr0 v upper lower) s h = tt
+  given-kept (writesSccr1 v upper lower) s h = control-kept (sccr1Guarded s v upper lower) s v upper lower h
+  given-kept (writesScdr v upper true) s h = (mild .write v upper s, tt)
+  given-kept (writesScdr v upper false) s h = tt
 
-given-keep : (e : Step) → AllKeep (given e)
-given-keep reset = tt
-given-keep (clock x) = tt
-given-keep (reads true true) = (status-keeps, (data-keeps, tt))
-given-keep (reads true false) = (status-keeps, tt)
-given-keep (reads false true) = (data-keeps, tt)
-given-keep (reads false false) = tt
-given-keep (writesSccr0 v upper lower) = tt
-given-keep (writesSccr1 v upper lower) = tt
-given-keep (writesScdr v upper true) = (write-keeps v upper, tt)
-given-keep (writesScdr v upper false) = tt
-
-pub all-keep : (es : List Step) → AllKeep (allGiven es)
-all-keep [] = tt
-all-keep (e ∷ es) = keep-append (given e) (allGiven es) (given-keep e) (all-keep es)
-
--- On the wire, at the sender and at the receiver.
-abbrev pub joined : Sci → Sci → Wired
-joined s r = record { sender = s; receiver = r }
-
-abbrev pub atS : List Access → List wire.Step → List wire.Step
-atS [] fs = fs
-atS (a ∷ ks) fs = atSender a ∷ atS ks fs
-
-abbrev pub atR : List Access → List wire.Step → List wire.Step
-atR [] fs = fs
-atR (a ∷ ks) fs = atReceiver a ∷ atR ks fs
-
-pub sender-steps : (ks : List Access) (fs : List wire.Step) (s r : Sci) →
-    steps (atS ks fs) (joined s r) ≡ steps fs (joined (accessedAll ks s) r)
-unfolding steps wire.step
-sender-steps [] fs s r = refl
-sender-steps (a ∷ ks) fs s r = sender-steps ks fs (accessed a s) r
-
-pub receiver-steps : (ks : List Access) (fs : List wire.Step) (s r : Sci) →
-    steps (atR ks fs) (joined s r) ≡ steps fs (joined s (accessedAll ks r))
-unfolding steps wire.step
-receiver-steps [] fs s r = refl
-receiver-steps (a ∷ ks) fs s r = receiver-steps ks fs s (accessed a r)
-
-pub sender-unchanged : (ks : List Access) (fs : List wire.Step) (s r : Sci) → AllKeep ks →
-    Unchanged fs (joined (accessedAll ks s) r) → Unchanged (atS ks fs) (joined s r)
-unfolding Unchanged wire.step
-sender-unchanged [] fs s r h u = u
-sender-unchanged (a ∷ ks) fs s r h u = (h .0 s .set, sender-unchanged ks fs (accessed a s) r (h .1) u)
-
-pub receiver-unchanged : (ks : List Access) (fs : List wire.Step) (s r : Sci) → AllKeep ks →
-    Unchanged fs (joined s (accessedAll ks r)) → Unchanged (atR ks fs) (joined s r)
-unfolding Unchanged wire.step
-receiver-unchanged [] fs s r h u = u
-receiver-unchanged (a ∷ ks) fs s r h u = (h .0 r, receiver-unchanged ks fs s (accessed a r) (h .1) u)
-
-pub sender-rests : (ks : List Access) (fs : List wire.Step) (s r : Sci) →
-    Rests fs (joined (accessedAll ks s) r) → Rests (atS ks fs) (joined s r)
-unfolding Rests wire.step
-sender-rests [] fs s r u = u
-sender-rests (a ∷ ks) fs s r u = sender-rests ks fs (accessed a s) r u
-
-pub receiver-rests : (ks : List Access) (fs : List wire.Step) (s r : Sci) →
-    Rests fs (joined s (accessedAll ks r)) → Rests (atR ks fs) (joined s r)
-unfolding Rests wire.step
-receiver-rests [] fs s r u = u
-receiver-rests (a ∷ ks) fs s r u = receiver-rests ks fs s (accessed a r) u
-
-pub sender-clocks : (ks : List Access) (fs : List wire.Step) → clocksIn (atS ks fs) ≡ clocksIn fs
-unfolding clocksIn
-sender-clocks [] fs = refl
-sender-clocks (a ∷ ks) fs = sender-clocks ks fs
-
-pub receiver-clocks : (ks : List Access) (fs : List wire.Step) → clocksIn (atR ks fs) ≡ clocksIn fs
-unfolding clocksIn
-receiver-clocks [] fs = refl
-receiver-clocks (a ∷ ks) fs = receiver-clocks ks fs
-
-pub sender-reads : (ks : List Access) (fs : List wire.Step) → readsOf (atS ks fs) ≡ readsOf fs
-unfolding readsOf
-sender-reads [] fs = refl
-sender-reads (a ∷ ks) fs = sender-reads ks fs
-
-pub rests-sender : (ks : List Access) (fs : List wire.Step) (s r : Sci) →
-    Rests (atS ks fs) (joined s r) → Rests fs (joined (accessedAll ks s) r)
-unfolding Rests wire.step
-rests-sender [] fs s r u = u
-rests-sender (a ∷ ks) fs s r u = rests-sender ks fs (accessed a s) r u
-
-pub rests-receiver : (ks : List Access) (fs : List wire.Step) (s r : Sci) →
-    Rests (atR ks fs) (joined s r) → Rests fs (joined s (accessedAll ks r))
-unfolding Rests wire.step
-rests-receiver [] fs s r u = u
-rests-receiver (a ∷ ks) fs s r u = rests-receiver ks fs s (accessed a r) u
+  pub all-kept : (es : List Step) (s : Sci) → AllAccesses es → Rated es s → AlongBy K es s → Kept K (allGiven es s) s
+  all-kept [] s h u k = tt
+  all-kept (e ∷ es) s h u k =
+      kept-append (given e s) (allGiven es (half.step e s)) s (given-kept e s (k .0))
+      (subst (Kept K (allGiven es (half.step e s))) (sym (given-step e s (h .0) (u .0)))
+      (all-kept es (half.step e s) (h .1) (u .1) (k .1)))

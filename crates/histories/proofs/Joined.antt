@@ -1,23 +1,24 @@
 -- Two modules clock by clock are their two serial halves clock by clock.
 use mathlib.Core.Path.{_≡_, refl, ap, sym, subst, _∙_}
-use mathlib.Core.Bool.{Bool, true, false}
+use mathlib.Core.Bool.{Bool, true}
 use mathlib.Core.List.{List, [], _∷_, _++_}
 use Prim.Native.Nat.{ℕ, zero, suc, _+_, _<_, _≤_}
 use native.Mathlib.Omega.{arith}
 use Rattle.sci.specs.Serial.{clocked, txdDriven, txd}
 use Rattle.sci.specs.History as half
-use Rattle.sci.specs.Wire.{Wired, Access, steps, step, Unchanged}
+use Rattle.sci.specs.Wire.{Wired, Access, steps, step}
 use Rattle.sci.specs.Wire as wire
 use Rattle.sci.specs.declared.serial.Sci.{Sci}
 use Rattle.qsm.specs.declared.state.Module.{Module}
 use Rattle.qsm.specs.declared.event.Access as bus
 use Rattle.qsm.specs.declared.event.Event.the-variants.{Hold}
 use Rattle.qsm.specs.declared.event.Event.the-variants as event
-use Rattle.histories.specs.History.{after, breaks}
-use Rattle.histories.specs.Demand2.{Two, halves, line, Tick, Moment, clock, atSender, atReceiver, next, play, clocksIn, Unbroken, Rests}
+use Rattle.histories.specs.History.{after}
+use Rattle.histories.specs.Demand2.{Two, halves, line, Tick, Moment, clock, atSender, atReceiver, next, play, clocksIn, SameSettings, StaysOn, Unchanged, Rests}
 use Rattle.histories.proofs.Follows as follow
 use Rattle.histories.proofs.Pin.{line-driven, line-rests}
-use Rattle.histories.proofs.Given.{accessedAll, makes, access-half, all-keep, joined, atS, atR, sender-steps, receiver-steps, sender-unchanged, receiver-unchanged, sender-rests, receiver-rests, sender-clocks, receiver-clocks, rests-sender, rests-receiver}
+use Rattle.histories.proofs.Given.{accessedAll, makes, access-half}
+use Rattle.histories.proofs.OnWire.{sender-kept, receiver-kept, joined, atS, atR, sender-steps, receiver-steps, sender-unchanged, receiver-unchanged, sender-rests, receiver-rests, sender-clocks, receiver-clocks, rests-sender, rests-receiver}
 
 hold-half : (pins : ℕ) (x : Bool) (m : Module) → after (Hold pins x 1) m .sci ≡ clocked (m .sci) x
 unfolding half.run half.step
@@ -45,17 +46,17 @@ clock-halves t q e =
     ∙ ap (joined (after (Hold (t .pins) (t .rxd) 1) (q .sender) .sci))
     (sym (hold-half (t .pins′) (line (q .sender) (t .undriven)) (q .receiver)))
 
-sender-halves : (a : bus.Access) (q : Two) → breaks (event.Access a) (q .sender) ≡ false →
+sender-halves : (a : bus.Access) (q : Two) → SameSettings (q .sender) (after (event.Access a) (q .sender)) →
     joined (accessedAll (makes a (q .sender)) (q .sender .sci)) (q .receiver .sci) ≡ halves (next (atSender a) q)
 unfolding next
 sender-halves a q h = ap (λ (s : Sci). joined s (q .receiver .sci)) (access-half a (q .sender) h)
 
-receiver-halves : (a : bus.Access) (q : Two) → breaks (event.Access a) (q .receiver) ≡ false →
+receiver-halves : (a : bus.Access) (q : Two) → StaysOn (q .receiver) (after (event.Access a) (q .receiver)) →
     joined (q .sender .sci) (accessedAll (makes a (q .receiver)) (q .receiver .sci)) ≡ halves (next (atReceiver a) q)
 unfolding next
-receiver-halves a q h = ap (joined (q .sender .sci)) (access-half a (q .receiver) h)
+receiver-halves a q h = ap (joined (q .sender .sci)) (access-half a (q .receiver) (h .same))
 
-pub project-steps : (es : List Moment) (q : Two) → Unbroken es q → Plain es q →
+pub project-steps : (es : List Moment) (q : Two) → Unchanged es q → Plain es q →
     steps (project es q) (halves q) ≡ halves (play es q)
 unfolding steps play
 project-steps [] q u p = refl
@@ -69,24 +70,24 @@ project-steps (atReceiver a ∷ es) q u p =
     ∙ ap (steps (project es (next (atReceiver a) q))) (receiver-halves a q (u .0))
     ∙ project-steps es (next (atReceiver a) q) (u .1) p
 
-pub project-unchanged : (es : List Moment) (q : Two) → Unbroken es q → Plain es q → Unchanged (project es q) (halves q)
-unfolding Unchanged
+pub project-unchanged : (es : List Moment) (q : Two) → Unchanged es q → Plain es q → wire.Unchanged (project es q) (halves q)
+unfolding wire.Unchanged
 project-unchanged [] q u p = tt
 project-unchanged (clock t ∷ es) q u p =
-    subst (Unchanged (project es (next (clock t) q))) (sym (clock-halves t q (p .0)))
+    subst (wire.Unchanged (project es (next (clock t) q))) (sym (clock-halves t q (p .0)))
     (project-unchanged es (next (clock t) q) u (p .1))
 project-unchanged (atSender a ∷ es) q u p =
     sender-unchanged (makes a (q .sender)) (project es (next (atSender a) q)) (q .sender .sci) (q .receiver .sci)
-    (all-keep (follow.steps (event.Access a) (q .sender)))
-    (subst (Unchanged (project es (next (atSender a) q))) (sym (sender-halves a q (u .0)))
+    (sender-kept a (q .sender) (u .0))
+    (subst (wire.Unchanged (project es (next (atSender a) q))) (sym (sender-halves a q (u .0)))
     (project-unchanged es (next (atSender a) q) (u .1) p))
 project-unchanged (atReceiver a ∷ es) q u p =
     receiver-unchanged (makes a (q .receiver)) (project es (next (atReceiver a) q)) (q .sender .sci) (q .receiver .sci)
-    (all-keep (follow.steps (event.Access a) (q .receiver)))
-    (subst (Unchanged (project es (next (atReceiver a) q))) (sym (receiver-halves a q (u .0)))
+    (receiver-kept a (q .receiver) (u .0))
+    (subst (wire.Unchanged (project es (next (atReceiver a) q))) (sym (receiver-halves a q (u .0)))
     (project-unchanged es (next (atReceiver a) q) (u .1) p))
 
-pub project-rests : (es : List Moment) (q : Two) → Unbroken es q → Plain es q → Rests es q →
+pub project-rests : (es : List Moment) (q : Two) → Unchanged es q → Plain es q → Rests es q →
     wire.Rests (project es q) (halves q)
 unfolding wire.Rests
 project-rests [] q u p r = tt
@@ -144,7 +145,7 @@ driven-now : (n : ℕ) (q : Wired) → Drives (suc n) q → txdDriven (q .sender
 unfolding steps wire.clocksIn
 driven-now n q d = d [] (omega arith)
 
-pub drives-plain : (es : List Moment) (q : Two) (n : ℕ) → Drives n (halves q) → clocksIn es ≤ n → Unbroken es q → Plain es q
+pub drives-plain : (es : List Moment) (q : Two) (n : ℕ) → Drives n (halves q) → clocksIn es ≤ n → Unchanged es q → Plain es q
 drives-plain [] q n d l u = tt
 drives-plain (clock t ∷ es) q zero d l u = absurd (omega (arith, l))
 drives-plain (clock t ∷ es) q (suc n) d l u =
@@ -165,7 +166,7 @@ drives-plain (atReceiver a ∷ es) q n d l u =
     l (u .1)
 
 -- The line rests where TXD does.
-pub rests-project : (es : List Moment) (q : Two) → Unbroken es q → Plain es q → wire.Rests (project es q) (halves q) → Rests es q
+pub rests-project : (es : List Moment) (q : Two) → Unchanged es q → Plain es q → wire.Rests (project es q) (halves q) → Rests es q
 unfolding wire.Rests
 rests-project [] q u p r = tt
 rests-project (clock t ∷ es) q u p r = (
@@ -183,12 +184,12 @@ rests-project (atReceiver a ∷ es) q u p r =
     (rests-receiver (makes a (q .receiver)) (project es (next (atReceiver a) q)) (q .sender .sci) (q .receiver .sci) r))
 
 -- One list after another.
-pub unbroken-append : (es ds : List Moment) (q : Two) → Unbroken es q → Unbroken ds (play es q) → Unbroken (es ++ ds) q
+pub unchanged-append : (es ds : List Moment) (q : Two) → Unchanged es q → Unchanged ds (play es q) → Unchanged (es ++ ds) q
 unfolding play
-unbroken-append [] ds q u v = v
-unbroken-append (clock t ∷ es) ds q u v = unbroken-append es ds (next (clock t) q) u v
-unbroken-append (atSender a ∷ es) ds q u v = (u .0, unbroken-append es ds (next (atSender a) q) (u .1) v)
-unbroken-append (atReceiver a ∷ es) ds q u v = (u .0, unbroken-append es ds (next (atReceiver a) q) (u .1) v)
+unchanged-append [] ds q u v = v
+unchanged-append (clock t ∷ es) ds q u v = unchanged-append es ds (next (clock t) q) u v
+unchanged-append (atSender a ∷ es) ds q u v = (u .0, unchanged-append es ds (next (atSender a) q) (u .1) v)
+unchanged-append (atReceiver a ∷ es) ds q u v = (u .0, unchanged-append es ds (next (atReceiver a) q) (u .1) v)
 
 pub plain-first : (es ds : List Moment) (q : Two) → Plain (es ++ ds) q → Plain es q
 plain-first [] ds q p = tt

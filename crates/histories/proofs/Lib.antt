@@ -10,11 +10,17 @@ pub mod Touches
 pub mod Lifted
 pub mod Witness
 pub mod Pin
+pub mod Parts
 pub mod Given
+pub mod OnWire
+pub mod Uncounted
 pub mod Joined
 pub mod Reading
 pub mod Stopping
 pub mod Sent
+pub mod Requested
+pub mod SentOne
+pub mod SentNext
 pub mod Arriving
 pub mod Keeping
 pub mod Period

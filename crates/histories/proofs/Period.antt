@@ -8,7 +8,7 @@ use lib.Dec.{eqb, leb}
 use borrow.Author.Tests.{eq-eqb}
 use Rattle.sci.specs.Control.{SCBR, RE}
 use Rattle.sci.specs.Serial.{active, due, sampled, counted, clocked, dataWritten, sccr0Guarded, sccr1Guarded}
-use Rattle.sci.specs.Line.{Op, sample, read, samplesIn}
+use Rattle.sci.specs.Line.{Op, sample, samplesIn}
 use Rattle.sci.specs.History.{Step, reset, clock, reads, writesSccr0, writesSccr1, writesScdr, step, run, stepOps, ops, breaks, Unbroken}
 use Rattle.sci.specs.declared.serial.Sci.{Sci}
 use Rattle.sci.proofs.Sampling.{is-due, not-due, samples, counts, Sampled, sample-leaves, re-active}
@@ -71,7 +71,7 @@ data-rate : (lower : Bool) (s : Sci) (v : ℕ) (upper : Bool) → dataWritten lo
 data-rate true s v upper = refl
 data-rate false s v upper = refl
 
-step-rate : (e : Step) (s : Sci) → breaks e s ≡ false → step e s .sccr0 ≡ s .sccr0
+pub step-rate : (e : Step) (s : Sci) → breaks e s ≡ false → step e s .sccr0 ≡ s .sccr0
 unfolding step
 step-rate reset s h = absurd (true≢false h)
 step-rate (clock x) s h = clock-registers s x .sccr0

@@ -6,9 +6,12 @@ use Prim.Native.Nat.{ℕ, _/_, _%_, _*_}
 use lib.Dec.{eqb}
 use Rattle.sci.specs.Line.{Op, sample, read}
 use Rattle.sci.specs.BackToBack.{readsData, readsBoth}
+use Rattle.sci.specs.Serial.{sccr1Guarded}
 use Rattle.sci.specs.History.{Step, reads}
-use Rattle.sci.specs.Wire.{Access}
+use Rattle.sci.specs.History as half
+use Rattle.sci.specs.Wire.{Access, writeControl}
 use Rattle.sci.specs.Wire as wire
+use Rattle.sci.specs.declared.serial.Sci.{Sci}
 use Rattle.qsm.specs.Map.{decode}
 use Rattle.qsm.specs.Lanes.{upperLane, lowerLane, lined, touches}
 use Rattle.qsm.specs.Access as qsm
@@ -23,7 +26,8 @@ use Rattle.qsm.specs.declared.event.Event.the-variants as event
 use Rattle.histories.specs.History.{receiverRead, eventOps}
 use Rattle.histories.specs.Demand2.{Two, Moment, clock, atSender, atReceiver, next, readsOf}
 use Rattle.histories.proofs.Words.{wordSteps, storeSteps}
-use Rattle.histories.proofs.Given.{given, allGiven, makes, atR, sender-reads}
+use Rattle.histories.proofs.Given.{given, allGiven, makes}
+use Rattle.histories.proofs.OnWire.{atR, sender-reads}
 use Rattle.histories.proofs.Joined.{project}
 
 abbrev splits : List Op → List Op
@@ -61,57 +65,65 @@ at-append : (ks ls : List Access) (fs : List wire.Step) → atR (ks ++ ls) fs �
 at-append [] ls fs = refl
 at-append (k ∷ ks) ls fs = ap (λ (z : List wire.Step). wire.atReceiver k ∷ z) (at-append ks ls fs)
 
-given-append : (es ds : List Step) → allGiven (es ++ ds) ≡ allGiven es ++ allGiven ds
-given-append [] ds = refl
-given-append (e ∷ es) ds =
-    ap (λ (z : List Access). given e ++ z) (given-append es ds) ∙ sym (append-assoc (given e) (allGiven es) (allGiven ds))
+given-append : (es ds : List Step) (s : Sci) → allGiven (es ++ ds) s ≡ allGiven es s ++ allGiven ds (half.run es s)
+unfolding half.run
+given-append [] ds s = refl
+given-append (e ∷ es) ds s =
+    ap (λ (z : List Access). given e s ++ z) (given-append es ds (half.step e s))
+    ∙ sym (append-assoc (given e s) (allGiven es (half.step e s)) (allGiven ds (half.run es (half.step e s))))
 
 -- A write reads nothing.
-word-reads : (p : Place) (v : ℕ) (upper lower : Bool) (fs : List wire.Step) →
-    wire.readsOf (atR (allGiven (wordSteps p v upper lower)) fs) ≡ wire.readsOf fs
+control-reads : (g : Bool) (v : ℕ) (upper lower : Bool) (fs : List wire.Step) →
+    wire.readsOf (atR (cond g [] (writeControl v upper lower ∷ []) ++ []) fs) ≡ wire.readsOf fs
 unfolding wire.readsOf
-word-reads (Own w) v upper lower fs = refl
-word-reads (Serial Sccr0) v upper lower fs = refl
-word-reads (Serial Sccr1) v upper lower fs = refl
-word-reads (Serial Scsr) v upper lower fs = refl
-word-reads (Serial Scdr) v upper true fs = refl
-word-reads (Serial Scdr) v upper false fs = refl
-word-reads (Queue w) v upper lower fs = refl
-word-reads Hole v upper lower fs = refl
+control-reads true v upper lower fs = refl
+control-reads false v upper lower fs = refl
 
-store-reads : (long : Bool) (at words : ℕ) (upper lower : Bool) (fs : List wire.Step) →
-    wire.readsOf (atR (allGiven (storeSteps long at words upper lower)) fs) ≡ wire.readsOf fs
-store-reads false at words upper lower fs = word-reads (decode at) (words / 65536) upper lower fs
-store-reads true at words upper lower fs =
+word-reads : (p : Place) (v : ℕ) (upper lower : Bool) (s : Sci) (fs : List wire.Step) →
+    wire.readsOf (atR (allGiven (wordSteps p v upper lower) s) fs) ≡ wire.readsOf fs
+unfolding wire.readsOf
+word-reads (Own w) v upper lower s fs = refl
+word-reads (Serial Sccr0) v upper lower s fs = refl
+word-reads (Serial Sccr1) v upper lower s fs = control-reads (sccr1Guarded s v upper lower) v upper lower fs
+word-reads (Serial Scsr) v upper lower s fs = refl
+word-reads (Serial Scdr) v upper true s fs = refl
+word-reads (Serial Scdr) v upper false s fs = refl
+word-reads (Queue w) v upper lower s fs = refl
+word-reads Hole v upper lower s fs = refl
+
+store-reads : (long : Bool) (at words : ℕ) (upper lower : Bool) (s : Sci) (fs : List wire.Step) →
+    wire.readsOf (atR (allGiven (storeSteps long at words upper lower) s) fs) ≡ wire.readsOf fs
+store-reads false at words upper lower s fs = word-reads (decode at) (words / 65536) upper lower s fs
+store-reads true at words upper lower s fs =
     let es : List Step = wordSteps (decode at) (words / 65536) upper lower in
     let ds : List Step = wordSteps (decode (qsm.next at)) (words % 65536 * 65536 / 65536) upper lower in
-    ap (λ (ks : List Access). wire.readsOf (atR ks fs)) (given-append es ds)
-    ∙ ap wire.readsOf (at-append (allGiven es) (allGiven ds) fs)
-    ∙ word-reads (decode at) (words / 65536) upper lower (atR (allGiven ds) fs)
-    ∙ word-reads (decode (qsm.next at)) (words % 65536 * 65536 / 65536) upper lower fs
+    ap (λ (ks : List Access). wire.readsOf (atR ks fs)) (given-append es ds s)
+    ∙ ap wire.readsOf (at-append (allGiven es s) (allGiven ds (half.run es s)) fs)
+    ∙ word-reads (decode at) (words / 65536) upper lower s (atR (allGiven ds (half.run es s)) fs)
+    ∙ word-reads (decode (qsm.next at)) (words % 65536 * 65536 / 65536) upper lower (half.run es s) fs
 
-read-reads : (b scsr scdr : Bool) (fs : List wire.Step) →
-    wire.readsOf (atR (allGiven (cond b (reads scsr scdr ∷ []) [])) fs)
+read-reads : (b scsr scdr : Bool) (s : Sci) (fs : List wire.Step) →
+    wire.readsOf (atR (allGiven (cond b (reads scsr scdr ∷ []) []) s) fs)
     ≡ splits (cond b (read scsr scdr ∷ []) []) ++ wire.readsOf fs
 unfolding wire.readsOf
-read-reads true true true fs = refl
-read-reads true true false fs = refl
-read-reads true false true fs = refl
-read-reads true false false fs = refl
-read-reads false scsr scdr fs = refl
+read-reads true true true s fs = refl
+read-reads true true false s fs = refl
+read-reads true false true s fs = refl
+read-reads true false false s fs = refl
+read-reads false scsr scdr s fs = refl
 
-write-reads : (b : Bool) (es : List Step) (fs : List wire.Step) → wire.readsOf (atR (allGiven es) fs) ≡ wire.readsOf fs →
-    wire.readsOf (atR (allGiven (cond b es [])) fs) ≡ wire.readsOf fs
-write-reads true es fs e = e
-write-reads false es fs e = refl
+write-reads : (b : Bool) (es : List Step) (s : Sci) (fs : List wire.Step) →
+    wire.readsOf (atR (allGiven es s) fs) ≡ wire.readsOf fs → wire.readsOf (atR (allGiven (cond b es []) s) fs) ≡ wire.readsOf fs
+write-reads true es s fs e = e
+write-reads false es s fs e = refl
 
 event-reads : (a : bus.Access) (m : Module) (fs : List wire.Step) →
     wire.readsOf (atR (makes a m) fs) ≡ splits (eventOps (event.Access a) m) ++ wire.readsOf fs
 event-reads (Read supervisor width offset) m fs =
-    read-reads (receiverRead m supervisor width offset) (touches 0x0C 2 width offset) (touches 0x0F 1 width offset) fs
+    read-reads (receiverRead m supervisor width offset) (touches 0x0C 2 width offset) (touches 0x0F 1 width offset) (m .sci) fs
 event-reads (Write supervisor width offset value) m fs =
-    write-reads (permits (decideWrite m supervisor width offset value)) _ fs
-    (store-reads (eqb width 4) offset (lined width value) (upperLane width offset) (lowerLane width offset) fs)
+    write-reads (permits (decideWrite m supervisor width offset value)) _ (m .sci) fs
+    (store-reads (eqb width 4) offset (lined width value) (upperLane width offset) (lowerLane width offset) (m .sci) fs)
 
 project-reads : (es : List Moment) (q : Two) → wire.readsOf (project es q) ≡ splits (readsOf es q)
 unfolding wire.readsOf

@@ -32,7 +32,7 @@ sccr0-kept v upper lower s =
     (λ e. by-cond (λ (t : Sci). t .sccr1 ≡ s .sccr1) (eqb (sccr0Bits (merge (s .sccr0) v upper lower)) (s .sccr0)) (λ e. refl)
     (λ e. refl))
 
-word-kept : (p : Place) (v : ℕ) (upper lower : Bool) (s : Sci) → isSccr1 p ≡ false →
+pub word-kept : (p : Place) (v : ℕ) (upper lower : Bool) (s : Sci) → isSccr1 p ≡ false →
     run (wordSteps p v upper lower) s .sccr1 ≡ s .sccr1
 unfolding run
 word-kept (Own w) v upper lower s h = refl

@@ -9,12 +9,13 @@ use Rattle.sci.specs.Serial.{txdDriven, txd}
 use Rattle.sci.specs.Wire.{Wired, steps, step}
 use Rattle.sci.specs.Wire as wire
 use Rattle.sci.proofs.StopBit.{frame-drives, stop-bit-rests}
-use Rattle.histories.specs.Demand2.{Two, halves, line, Tick, Moment, clock, next, play, clocksIn, Unbroken, period, width, Begins, StopBit, StopBitRests}
-use Rattle.histories.proofs.Pin.{line-driven, line-rests}
-use Rattle.histories.proofs.Joined.{Plain, project, clock-halves, project-steps, project-clocks, Drives, drives-plain, rests-project, unbroken-append, plain-first, plain-second, clocks-append, play-append}
+use Rattle.histories.specs.Demand2.{Two, halves, line, Tick, Moment, clock, next, play, clocksIn, Unchanged, period, width, Begins, StopBit, StopBitRests}
+use Rattle.histories.proofs.Pin.{line-driven}
+use Rattle.histories.proofs.Arriving.{begins-driven}
+use Rattle.histories.proofs.Joined.{Plain, project, clock-halves, project-steps, project-clocks, Drives, drives-plain, rests-project, unchanged-append, plain-first, plain-second, clocks-append, play-append}
 
-module _ (q : Two) (t : Tick) (es later : List Moment) (h : Begins t q) (u : Unbroken es (next (clock t) q))
-    (v : Unbroken later (play es (next (clock t) q))) (low : 16 * suc (width q) * period q ≤ clocksIn es)
+module _ (q : Two) (t : Tick) (es later : List Moment) (h : Begins (q .sender)) (u : Unchanged es (next (clock t) q))
+    (v : Unchanged later (play es (next (clock t) q))) (low : 16 * suc (width q) * period q ≤ clocksIn es)
     (whole : suc (clocksIn es + clocksIn later) ≡ frameSamples (width q) * period q) where
   abbrev b : Two
   b = next (clock t) q
@@ -26,10 +27,10 @@ module _ (q : Two) (t : Tick) (es later : List Moment) (h : Begins t q) (u : Unb
   z = play later c
 
   first-plain : line (q .sender) (t .undriven) ≡ txd (q .sender .sci)
-  first-plain = line-rests (q .sender) (t .undriven) (h .rests)
+  first-plain = line-driven (q .sender) (t .undriven) (begins-driven (q .sender) h)
 
   begins : wire.Begins (halves q)
-  begins = record { rests = sym first-plain ∙ h .rests; sample = h .sample; frame = h .frame }
+  begins = record { sample = h .sample; frame = h .frame }
 
   abbrev n : ℕ
   n = frameSamples (width q) * period q
@@ -43,7 +44,7 @@ module _ (q : Two) (t : Tick) (es later : List Moment) (h : Begins t q) (u : Unb
 
   plain : Plain (es ++ later) b
   plain =
-      drives-plain (es ++ later) b n drives (omega (arith, clocks-append es later, whole)) (unbroken-append es later b u v)
+      drives-plain (es ++ later) b n drives (omega (arith, clocks-append es later, whole)) (unchanged-append es later b u v)
 
   at-c : steps (project es b) (halves b) ≡ halves c
   at-c = project-steps es b u (plain-first es later b plain)
@@ -57,7 +58,7 @@ module _ (q : Two) (t : Tick) (es later : List Moment) (h : Begins t q) (u : Unb
   driven : txdDriven (z .sender .sci) ≡ true
   driven =
       subst (λ (w : Two). txdDriven (w .sender .sci) ≡ true) (play-append es later b)
-      (subst (λ (w : Wired). txdDriven (w .sender) ≡ true) (project-steps (es ++ later) b (unbroken-append es later b u v) plain)
+      (subst (λ (w : Wired). txdDriven (w .sender) ≡ true) (project-steps (es ++ later) b (unchanged-append es later b u v) plain)
       (drives (project (es ++ later) b)
       (subst (λ (k : ℕ). k < n) (sym (project-clocks (es ++ later) b)) (omega (arith, clocks-append es later, whole)))))
 
@@ -76,13 +77,14 @@ module _ (q : Two) (t : Tick) (es later : List Moment) (h : Begins t q) (u : Unb
   stopped =
       record {
         rests = rests-project later c v (plain-second es later b plain) (stops .rests);
+        one = one;
         begins =
-            λ clear on empty s.
+            λ clear on empty.
             let e : wire.Begins (halves z) =
             subst wire.Begins at-z
             (stops .next clear (subst (λ (w : Wired). TE (w .sender .sccr1) ≡ true) (sym at-z) on)
             (subst (λ (w : Wired). w .sender .transmitter .preamble ≡ false) (sym at-z) empty)) in
-            record { rests = one (s .undriven); sample = e .sample; frame = e .frame };
+            record { sample = e .sample; frame = e .frame };
       }
 
 pub stop-bit : StopBitRests

@@ -8,7 +8,7 @@ ghost use Rattle.histories.specs.Witness.{Met};
 
 // Demand 2, of any two modules of one rate and one set of settings: what the one sends on pin 7 arrives in the other, word for word.
 // Ruled out: a frame whose bits or stop bit the receiver misses at some count of the prescalers; a word lost or marred between frames
-// that are read in time; a pin 7 that doesn't show TXD.
+// that are read in time, or where a request is enabled; a frame that ends early where TE is cleared; a pin 7 that doesn't show TXD.
 pub fn demand2() -> bool
     ensures { λ r. ⌜ (r ≡ true) × Demand2 ⌝ }
 {

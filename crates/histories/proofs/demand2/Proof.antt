@@ -1,7 +1,27 @@
 use mathlib.Core.Path.{refl}
 use Rattle.histories.proofs.demand2.Statement.{statement}
 use Rattle.histories.proofs.demand2.Tie as tie
-use Rattle.histories.proofs.Arriving.{demand2}
+use Rattle.histories.specs.Demand2.{Demand2}
+use Rattle.histories.proofs.Arriving.{arrives, waits, arrive-in-turn, begins-at-one}
+use Rattle.histories.proofs.Uncounted.{uncounted}
+use Rattle.histories.proofs.Stopping.{stop-bit}
+use Rattle.histories.proofs.Pin.{pin-shows}
+use Rattle.histories.proofs.Sent.{past, past′, one, other}
+use Rattle.histories.proofs.SentOne.{one-sends, one-matched}
+use Rattle.histories.proofs.SentNext.{all-sent, all-read}
+
+demand2 : Demand2
+demand2 =
+    record {
+      arrives = arrives;
+      waits = waits;
+      uncounted = uncounted;
+      inTurn = arrive-in-turn;
+      stopBit = stop-bit;
+      pin = pin-shows;
+      atOne = begins-at-one;
+      met = (past, past′, one, other, one-sends, one-matched, all-sent, all-read);
+    }
 
 returns : tie.Need-returns
 returns c = (refl, demand2)

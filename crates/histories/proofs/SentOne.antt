@@ -1,0 +1,174 @@
+-- The first frame of the two modules.
+use mathlib.Core.Bool.{true, false, and-false}
+use mathlib.Core.List.{List, _∷_}
+use mathlib.Core.Path.{_≡_, refl, ap, sym, subst, _∙_}
+use Prim.Native.Nat.{ℕ, zero, suc, _+_, _*_}
+use lib.ListN.{replicate}
+use Rattle.steps.specs.Iterate.{iterate}
+use Rattle.sci.specs.Flags.{flag}
+use Rattle.sci.specs.Status.{has, raise, raiseIf, fall, fallIf, markSeen, fallSeen}
+use Rattle.sci.specs.Control.{SCBR, M, bitsOf}
+use Rattle.sci.specs.Framer.{searching, startBit, dataBit, stopBit, framed}
+use Rattle.sci.specs.Receiver.{outcome, raised, entered, statusAfter, receiverAfter, received}
+use Rattle.sci.specs.Transmitter.{beginsFrame, sent}
+use Rattle.sci.specs.Serial.{resetSci, due, sampled, clocked, wroteSccr1}
+use Rattle.sci.specs.Levels.{endSample}
+use Rattle.sci.specs.Wire.{Wired, step, Matched}
+use Rattle.sci.specs.Wire as wire
+use Rattle.sci.specs.declared.serial.Sci.{Sci}
+use Rattle.qsm.specs.Map.{decode}
+use Rattle.qsm.specs.Lanes.{inMap}
+use Rattle.qsm.specs.Word.{unmodelled, guarded}
+use Rattle.qsm.specs.Serial.{serialUnmodelled, serialGuarded}
+use Rattle.qsm.specs.Access.{store, stored}
+use Rattle.qsm.specs.Decision.{permits, admitted, decideRead, storedBy, decideStored, decideWrite}
+use Rattle.qsm.specs.declared.state.Module.{Module}
+use Rattle.qsm.specs.declared.event.Access.{Access}
+use Rattle.qsm.specs.declared.event.Access.the-variants.{Write}
+use Rattle.qsm.specs.declared.event.Event.the-variants as event
+use Rattle.histories.specs.History.{breaks}
+use Rattle.histories.specs.Demand2.{Two, halves, Moment, clock, atSender, atReceiver, next, Unchanged, begun, ended, Begins, Sends, since}
+use Rattle.histories.proofs.Pin.{line-driven}
+use Rattle.histories.proofs.OnWire.{joined, atR}
+use Rattle.histories.proofs.Uncounted.{uncounted}
+use Rattle.histories.proofs.Joined.{project, clock-halves}
+use Rattle.histories.proofs.Arriving.{begins-driven, at-ended}
+use Rattle.histories.proofs.Requested.{request-stays, request-given}
+use Rattle.histories.proofs.Sent.{two, tick, ticks, status, one, all-clocks, sending, listening, at-past, start}
+
+-- The first frame: it begins, and the receiver is ready then.
+pub one-begins : Begins (two .sender)
+unfolding has
+one-begins =
+    record {
+      sample = ap due at-past;
+      frame = ap (λ (s : Sci). beginsFrame (s .transmitter) (s .status) (s .sccr1)) at-past;
+    }
+
+abbrev pub b : Two
+b = begun one two
+
+abbrev begunHalves : Wired
+begunHalves = step (wire.clock true) (joined sending listening)
+
+at-b : halves b ≡ begunHalves
+at-b =
+    sym (clock-halves tick two (line-driven (two .sender) true (begins-driven (two .sender) one-begins)))
+    ∙ ap (step (wire.clock true)) start
+
+matched : Matched begunHalves
+unfolding has raise raiseIf fallIf step clocked sampled sent received receiverAfter outcome statusAfter entered framed
+matched =
+    record {
+      rate = refl;
+      same = refl;
+      on = refl;
+      awake = refl;
+      searches = refl;
+      ones = refl;
+      rdrf = refl;
+      errors = record { or = refl; nf = refl; fe = refl; pf = refl };
+    }
+
+pub one-matched : Matched (halves b)
+one-matched = subst Matched (sym at-b) matched
+
+-- What is asked of the receiver's SCCR1, and its count.
+record Heard (s : Sci) : Type 0 where
+  control : s .sccr1 ≡ 4
+  awake : s .receiver .asleep ≡ false
+  count : s .prescaler ≡ 0
+
+b-heard : Heard (b .receiver .sci)
+unfolding step clocked sampled received receiverAfter outcome
+b-heard = subst (λ (w : Wired). Heard (w .receiver)) (sym at-b) (record { control = refl; awake = refl; count = refl })
+
+write-uncounted : (m : Module) → breaks (event.Access (Write true 2 0x0E 0x2A)) m ≡ false
+write-uncounted m = and-false (permits (decideWrite m true 2 0x0E 0x2A))
+
+pub one-unchanged : (es : List Moment) → ((q : Two) → Unchanged es q) →
+    Unchanged (atSender status ∷ (atSender (Write true 2 0x0E 0x2A) ∷ (atReceiver (Write true 2 0x0A 0x24) ∷ es))) b
+unfolding next
+one-unchanged es u = (
+  uncounted (b .sender) status refl .same,
+  (
+    uncounted _ (Write true 2 0x0E 0x2A) (write-uncounted _) .same,
+    (request-stays (b .receiver) (b-heard .control) (b-heard .awake), u _),
+  ),
+)
+
+pub one-sends : Sends one two
+one-sends =
+    record {
+      begins = one-begins;
+      unchanged = one-unchanged (ticks 307) (all-clocks 307);
+      last =
+          ap (λ (k : ℕ). 308 + k) (b-heard .count)
+          ∙ sym (ap (λ (s : Sci). suc (endSample (bitsOf (M (s .sccr1)))) * (2 * SCBR (s .sccr0))) at-past);
+    }
+
+-- The first frame ends: what comes on the wire meanwhile, and the two serial halves then.
+pub project-ticks : (n : ℕ) (q : Two) → project (ticks n) q ≡ replicate n (wire.clock true)
+project-ticks zero q = refl
+project-ticks (suc n) q = ap (λ (fs : List wire.Step). wire.clock true ∷ fs) (project-ticks n (next (clock tick) q))
+
+abbrev loaded : Two
+loaded = next (atReceiver (Write true 2 0x0A 0x24)) (next (atSender (Write true 2 0x0E 0x2A)) (next (atSender status) b))
+
+abbrev oneLater : List wire.Step
+oneLater =
+    wire.atSender wire.readStatus
+    ∷ (wire.atSender (wire.writeData 0x2A true) ∷ (wire.atReceiver (wire.writeControl 0x24 true true) ∷ replicate 307 (wire.clock true)))
+
+same-later : project (one .later) b ≡ oneLater
+unfolding next decideRead decideWrite decideStored admitted inMap decode storedBy stored store iterate unmodelled guarded serialUnmodelled serialGuarded
+same-later =
+    ap
+    (λ (fs : List wire.Step). wire.atSender wire.readStatus ∷ (wire.atSender (wire.writeData 0x2A true) ∷ fs))
+    (ap (λ (ks : List wire.Access). atR ks (project (ticks 307) loaded)) (request-given (b .receiver) (b-heard .control))
+    ∙ ap (λ (fs : List wire.Step). wire.atReceiver (wire.writeControl 0x24 true true) ∷ fs) (project-ticks 307 loaded))
+
+abbrev pub sentOne : Sci
+sentOne =
+    record {
+      sccr0 = 1;
+      sccr1 = 8;
+      status = record { flags = flag 0; seen = flag 0 };
+      prescaler = 0;
+      receiver = resetSci .receiver;
+      transmitter = record { scdr = 0x2A; preamble = false; shift = 1; left = 6 };
+    }
+
+abbrev pub heardOne : Sci
+heardOne =
+    record {
+      sccr0 = 1;
+      sccr1 = 0x24;
+      status = record { flags = flag 480; seen = flag 0 };
+      prescaler = 0;
+      receiver =
+          record {
+            framer = searching;
+            last1 = true;
+            last2 = true;
+            last3 = true;
+            idle = 10;
+            since = true;
+            asleep = false;
+            scdr = 0x55;
+          };
+      transmitter = resetSci .transmitter;
+    }
+
+passed : step (wire.clock true) (wire.steps oneLater begunHalves) ≡ joined sentOne heardOne
+unfolding has raise raiseIf fall fallIf markSeen fallSeen startBit dataBit stopBit framed outcome raised entered statusAfter receiverAfter received sent sampled clocked wroteSccr1 wire.accessed step wire.steps
+passed = refl
+
+abbrev pub e : Two
+e = ended one two
+
+pub at-e : halves e ≡ joined sentOne heardOne
+at-e =
+    sym (at-ended one two one-sends)
+    ∙ ap (λ (fs : List wire.Step). step (wire.clock true) (wire.steps fs (step (wire.clock true) (halves two)))) same-later
+    ∙ ap (λ (w : Wired). step (wire.clock true) (wire.steps oneLater (step (wire.clock true) w))) start ∙ passed

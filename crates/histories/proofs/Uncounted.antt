@@ -1,0 +1,57 @@
+-- An access that is no counted write leaves SCCR0, SCCR1 and RWU.
+use mathlib.Core.Path.{_≡_, refl, ap, subst, sym, _∙_}
+use mathlib.Core.Bool.{Bool, true, false, cond, not, true≢false}
+use mathlib.Core.List.{List, [], _∷_}
+use Rattle.sci.specs.Control.{RE, settings}
+use Rattle.sci.specs.Serial.{sccr0Guarded, sccr1Guarded}
+use Rattle.sci.specs.History.{Step, reset, clock, reads, writesSccr0, writesSccr1, writesScdr, step, run, breaks, Unbroken}
+use Rattle.sci.specs.declared.serial.Sci.{Sci}
+use Rattle.sci.proofs.Follow.{step-sccr1}
+use Rattle.qsm.specs.declared.event.Event.the-variants as event
+use Rattle.histories.specs.History.{after}
+use Rattle.histories.specs.Demand2.{Uncounted}
+use Rattle.histories.proofs.Follows.{steps, follows}
+use Rattle.histories.proofs.Unbroken.{event-unbroken}
+use Rattle.histories.proofs.Period.{step-rate}
+use Rattle.histories.proofs.Parts.{asleep-data}
+use Rattle.histories.proofs.Given.{Accesses, AllAccesses, event-accesses}
+
+refused-asleep : (g : Bool) (s t : Sci) → not g ≡ false → cond g s t .receiver .asleep ≡ s .receiver .asleep
+refused-asleep true s t e = refl
+refused-asleep false s t e = absurd (true≢false e)
+
+step-asleep : (e : Step) (s : Sci) → Accesses e → breaks e s ≡ false → step e s .receiver .asleep ≡ s .receiver .asleep
+unfolding step
+step-asleep reset s a h = absurd a
+step-asleep (clock x) s a h = absurd a
+step-asleep (reads scsr scdr) s a h = refl
+step-asleep (writesSccr0 v upper lower) s a h = refused-asleep (sccr0Guarded s v upper lower) s _ h
+step-asleep (writesSccr1 v upper lower) s a h = refused-asleep (sccr1Guarded s v upper lower) s _ h
+step-asleep (writesScdr v upper lower) s a h = asleep-data lower s v upper
+
+record Left (s r : Sci) : Type 0 where
+  rate : r .sccr0 ≡ s .sccr0
+  control : r .sccr1 ≡ s .sccr1
+  asleep : r .receiver .asleep ≡ s .receiver .asleep
+
+run-left : (es : List Step) (s : Sci) → AllAccesses es → Unbroken es s → Left s (run es s)
+unfolding run
+run-left [] s a u = record { rate = refl; control = refl; asleep = refl }
+run-left (e ∷ es) s a u =
+    let h : Left (step e s) (run es (step e s)) = run-left es (step e s) (a .1) (u .1) in
+    record {
+      rate = h .rate ∙ step-rate e s (u .0);
+      control = h .control ∙ step-sccr1 e s (u .0);
+      asleep = h .asleep ∙ step-asleep e s (a .0) (u .0);
+    }
+
+pub uncounted : Uncounted
+uncounted m a h =
+    let l : Left (m .sci) (after (event.Access a) m .sci) =
+    subst (Left (m .sci)) (sym (follows (event.Access a) m))
+    (run-left (steps (event.Access a) m) (m .sci) (event-accesses a m) (event-unbroken (event.Access a) m h)) in
+    record {
+      same = record { rate = l .rate; set = ap settings (l .control) };
+      on = ap RE (l .control);
+      asleep = l .asleep;
+    }
