@@ -91,7 +91,7 @@ module _ {B : Type 0} (is : Place → Bool) (part : Sci → B) (k : Part is part
       (ap part (sym (follows (event.Access (Write supervisor width offset value)) m)) ∙ h)
 
 -- SCCR0.
-rate-control : (v : ℕ) (upper lower : Bool) (s : Sci) → step (writesSccr1 v upper lower) s .sccr0 ≡ s .sccr0
+pub rate-control : (v : ℕ) (upper lower : Bool) (s : Sci) → step (writesSccr1 v upper lower) s .sccr0 ≡ s .sccr0
 unfolding step wroteSccr1
 rate-control v upper lower s =
     by-cond (λ (t : Sci). t .sccr0 ≡ s .sccr0) (sccr1Guarded s v upper lower) (λ _. refl)
@@ -101,7 +101,7 @@ rate-control v upper lower s =
     go true = refl
     go false = refl
 
-rate-data : (lower : Bool) (s : Sci) (v : ℕ) (upper : Bool) → dataWritten lower s v upper .sccr0 ≡ s .sccr0
+pub rate-data : (lower : Bool) (s : Sci) (v : ℕ) (upper : Bool) → dataWritten lower s v upper .sccr0 ≡ s .sccr0
 rate-data true s v upper = refl
 rate-data false s v upper = refl
 

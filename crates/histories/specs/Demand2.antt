@@ -203,6 +203,10 @@ PinShows =
 abbrev pub BeginsAtOne : Type 0
 BeginsAtOne = (es : List Event) (undriven : Bool) → Begins (run es resetModule) → line (run es resetModule) undriven ≡ true
 
+-- And SCCR0 is SCBR: its other bits don't exist.
+abbrev pub RateIsAll : Type 0
+RateIsAll = (es : List Event) → run es resetModule .sci .sccr0 ≡ SCBR (run es resetModule .sci .sccr0)
+
 -- Two modules since their resets.
 abbrev pub since : List Event → List Event → Two
 since past past′ = record { sender = run past resetModule; receiver = run past′ resetModule }
@@ -215,6 +219,7 @@ pub record Demand2 : Type 0 where
   pub stopBit : StopBitRests
   pub pin : PinShows
   pub atOne : BeginsAtOne
+  pub rateIsAll : RateIsAll
   -- What is asked of the two can be met, by two words in turn.
   pub met : (past past′ : List Event) × (f : Frame) × (u : Word) × Sends f (since past past′)
       × Matched (halves (begun f (since past past′))) × AllSent (u ∷ []) (ended f (since past past′))

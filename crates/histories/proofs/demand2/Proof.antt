@@ -3,7 +3,7 @@ use Rattle.histories.proofs.demand2.Statement.{statement}
 use Rattle.histories.proofs.demand2.Tie as tie
 use Rattle.histories.specs.Demand2.{Demand2}
 use Rattle.histories.proofs.Arriving.{arrives, waits, arrive-in-turn, begins-at-one}
-use Rattle.histories.proofs.Uncounted.{uncounted}
+use Rattle.histories.proofs.Uncounted.{uncounted, rate-is-all}
 use Rattle.histories.proofs.Stopping.{stop-bit}
 use Rattle.histories.proofs.Pin.{pin-shows}
 use Rattle.histories.proofs.Sent.{past, past′, one, other}
@@ -20,6 +20,7 @@ demand2 =
       stopBit = stop-bit;
       pin = pin-shows;
       atOne = begins-at-one;
+      rateIsAll = rate-is-all;
       met = (past, past′, one, other, one-sends, one-matched, all-sent, all-read);
     }
 
