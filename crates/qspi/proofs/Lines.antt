@@ -7,11 +7,11 @@ use native.Mathlib.Omega.{arith}
 use borrow.Author.Tests.{ne-eqb, eqb-false}
 use Rattle.steps.specs.Bits.{merge}
 use Rattle.qspi.specs.Fields.{spe, cont, pcsField}
-use Rattle.qspi.specs.Registers.{switched, writeSpcr1}
-use Rattle.qspi.specs.Queue.{clock, queueClock, faulted}
+use Rattle.qspi.specs.Registers.{withSpcr1, switched, writeSpcr1}
+use Rattle.qspi.specs.Queue.{begun, clock, queueClock, faulted}
 use Rattle.qspi.specs.Outputs.{sck, pcs}
-use Rattle.qspi.specs.State.{withSpcr1}
-use Rattle.qspi.specs.Entry.{run, entry, lastClock}
+use Rattle.qspi.specs.Parts.{withRegisters}
+use Rattle.qspi.specs.Run.{run, lastClock}
 use Rattle.qspi.specs.Laws.{SckTurns, SckRests, PcsShow, PcsDelay, Abandoned, FaultAbandons, WriteAbandons}
 use Rattle.qspi.proofs.Completed.{completed-keeps}
 use Rattle.qspi.proofs.Edges.{edges-fall, last-edge}
@@ -29,22 +29,22 @@ pcs-show q pins s calm j d portqs less within later =
 
 pub pcs-delay : PcsDelay
 pcs-delay q pins s calm goes zero portqs less =
-    ap (λ k. pcs (run pins k q) portqs) (add-zero (lastClock (entry q)))
-    ∙ field-on q pins s calm goes (λ r. pcs r portqs) (pcsField (entry q .command)) refl refl
+    ap (λ k. pcs (run pins k q) portqs) (add-zero (lastClock (begun q)))
+    ∙ field-on q pins s calm goes (λ r. pcs r portqs) (pcsField (begun q .entry .command)) refl refl
 pcs-delay q pins s calm goes (suc d) portqs less =
     ap (λ r. pcs r portqs) (delay-runs q pins s calm goes (suc d) (omega arith) less)
     ∙ ap (λ c. cond (cont c) (pcsField c) (portqs / 8 % 16))
-    (field-on q pins s calm goes (λ r. r .command) (entry q .command) refl refl)
-    ∙ ap (λ b. cond (b || cont (entry q .command)) (pcsField (entry q .command)) (portqs / 8 % 16))
+    (field-on q pins s calm goes (λ r. r .entry .command) (begun q .entry .command) refl refl)
+    ∙ ap (λ b. cond (b || cont (begun q .entry .command)) (pcsField (begun q .entry .command)) (portqs / 8 % 16))
     (sym (ne-eqb (suc d) 0 (λ e. omega arith)))
 
 pub fault-abandons : FaultAbandons
 unfolding clock queueClock
 fault-abandons q pins h =
-    let there : clock q pins ≡ faulted true q = rw (h, no-spe (q .spcr1)) in (
+    let there : clock q pins ≡ faulted true q = rw (h, no-spe (q .registers .spcr1)) in (
       subst (Abandoned q) (sym there)
-          (record { off = no-spe (q .spcr1); not-playing = refl; receive = refl; cptqp = refl; spif = refl }),
-      ap (λ r. r .modf) there,
+          (record { off = no-spe (q .registers .spcr1); not-playing = refl; receive = refl; cptqp = refl; spif = refl }),
+      ap (λ r. r .spsr .flags .modf) there,
     )
 
 cleared : (old v : ℕ) (lower : Bool) → spe v ≡ false → spe (merge old v true lower) ≡ false
@@ -56,8 +56,8 @@ cleared old v false h =
 pub write-abandons : WriteAbandons
 unfolding writeSpcr1
 write-abandons q v lower on off =
-    let gone : spe (merge (q .spcr1) v true lower) ≡ false = cleared (q .spcr1) v lower off in
-    let there : writeSpcr1 q v true lower ≡ switched true false (withSpcr1 q (merge (q .spcr1) v true lower)) =
+    let gone : spe (merge (q .registers .spcr1) v true lower) ≡ false = cleared (q .registers .spcr1) v lower off in
+    let there : writeSpcr1 q v true lower ≡ switched true false (withRegisters q (withSpcr1 (q .registers) (merge (q .registers .spcr1) v true lower))) =
     rw (on, gone) in
     subst (Abandoned q) (sym there)
     (record { off = gone; not-playing = refl; receive = refl; cptqp = refl; spif = refl })

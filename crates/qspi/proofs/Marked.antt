@@ -6,7 +6,7 @@ use native.Mathlib.Nat.{mul-le-mul}
 use native.Mathlib.Omega.{arith}
 use Rattle.qspi.specs.Fields.{spe, spbr, bitsOf, preDelay, delayAfter}
 use Rattle.qspi.specs.Registers.{reset, writeSpcr1}
-use Rattle.qspi.specs.Entry.{run, edgeAt, lengthOf, beginsAt}
+use Rattle.qspi.specs.Run.{run, edgeAt, lengthOf, beginsAt}
 use Rattle.qspi.specs.Laws.{Starting}
 use Rattle.qspi.specs.Marked.{setUp, plain, around, longest, K7, K8, K9, K10}
 use Rattle.qspi.proofs.Bounds.{bits-small, pre-small, delay-small}
@@ -22,7 +22,7 @@ plain-starts = record { on = refl; not-playing = refl; not-delaying = refl; goes
 pub k7 : K7
 unfolding setUp reset writeSpcr1 bitsOf preDelay delayAfter
 k7 pins calm = (
-  ap (λ r. r .edges) (edges-fall plain pins plain-starts calm 15 3 (omega arith) (omega arith) (omega arith)),
+  ap (λ r. r .entry .edges) (edges-fall plain pins plain-starts calm 15 3 (omega arith) (omega arith) (omega arith)),
   in-delay plain pins plain-starts calm refl 0 (omega arith),
   in-delay plain pins plain-starts calm refl 16 (omega arith),
   next-starts plain pins plain-starts calm refl refl .1,
@@ -31,7 +31,7 @@ k7 pins calm = (
 pub k8 : K8
 unfolding setUp reset writeSpcr1 bitsOf preDelay delayAfter beginsAt
 k8 pins calm =
-    let still : (spe (run pins 1278 plain .spcr1) ≡ true) × (run pins 1278 plain .spif ≡ false) =
+    let still : (spe (run pins 1278 plain .registers .spcr1) ≡ true) × (run pins 1278 plain .spsr .flags .spif ≡ false) =
     not-sooner plain pins plain-starts calm refl refl 1278 (omega arith) in
     (still .0, still .1, last-of-queue plain pins plain-starts calm refl refl)
 

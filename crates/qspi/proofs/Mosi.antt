@@ -8,8 +8,9 @@ use lib.Dec.{eqb}
 use borrow.Author.Tests.{eq-eqb, ne-eqb, eqb-true, eqb-false, lt-ltb, le-ltb}
 use Rattle.steps.specs.Bits.{bit}
 use Rattle.qspi.specs.Fields.{cpha}
-use Rattle.qspi.specs.Queue.{bitOut, mosiAfter}
-use Rattle.qspi.specs.Entry.{entry, bitsIn, mosiBy, bitShown}
+use Rattle.qspi.specs.Entry.{bitOut, mosiAfter}
+use Rattle.qspi.specs.Queue.{begun}
+use Rattle.qspi.specs.Run.{bitsIn, mosiBy, bitShown}
 use Rattle.qspi.specs.Laws.{MosiShows, MosiHolds}
 use Rattle.qspi.specs.declared.Qspi.{Qspi}
 use Rattle.qspi.proofs.Bounds.{bits-small, bits-pos}
@@ -80,73 +81,73 @@ module _ (n w : ℕ) (line : ℕ → Bool) where
 bit-out : (w n i : ℕ) → n ≤ 16 → bitOut w n i ≡ bit (n - 1 - i) w
 bit-out w n i h = ap (λ k. bit k w) (let small : n - 1 - i < 16 = omega arith in mod-eq-of-lt small)
 
-module _ (q : Qspi) (few : bitsIn (entry q) ≤ 16) (some : 1 ≤ bitsIn (entry q)) where
-  shown-first : cpha (q .spcr0) ≡ false → (j : ℕ) → j < bitsIn (entry q) * 2 →
-      mosiBy (entry q) j ≡ bitOut (entry q .shift) (bitsIn (entry q)) (j / 2)
+module _ (q : Qspi) (few : bitsIn (begun q) ≤ 16) (some : 1 ≤ bitsIn (begun q)) where
+  shown-first : cpha (q .registers .spcr0) ≡ false → (j : ℕ) → j < bitsIn (begun q) * 2 →
+      mosiBy (begun q) j ≡ bitOut (begun q .entry .word) (bitsIn (begun q)) (j / 2)
   unfolding mosiBy
   shown-first h j less =
-      first-phase (bitsIn (entry q)) (entry q .shift) (mosiBy (entry q))
-      (ap (λ b. mosiAfter b (bitsIn (entry q)) (entry q .shift) 0 (q .mosi)) h
-      ∙ even-changes (bitsIn (entry q)) (entry q .shift) (q .mosi) 0 refl some)
-      (λ i. ap (λ b. mosiAfter b (bitsIn (entry q)) (entry q .shift) (suc i) (mosiBy (entry q) i)) h)
+      first-phase (bitsIn (begun q)) (begun q .entry .word) (mosiBy (begun q))
+      (ap (λ b. mosiAfter b (bitsIn (begun q)) (begun q .entry .word) 0 (q .entry .mosi)) h
+      ∙ even-changes (bitsIn (begun q)) (begun q .entry .word) (q .entry .mosi) 0 refl some)
+      (λ i. ap (λ b. mosiAfter b (bitsIn (begun q)) (begun q .entry .word) (suc i) (mosiBy (begun q) i)) h)
       j less
 
-  shown-second : cpha (q .spcr0) ≡ true → (j : ℕ) → j < bitsIn (entry q) * 2 →
-      mosiBy (entry q) (suc j) ≡ bitOut (entry q .shift) (bitsIn (entry q)) (j / 2)
+  shown-second : cpha (q .registers .spcr0) ≡ true → (j : ℕ) → j < bitsIn (begun q) * 2 →
+      mosiBy (begun q) (suc j) ≡ bitOut (begun q .entry .word) (bitsIn (begun q)) (j / 2)
   unfolding mosiBy
   shown-second h j less =
-      second-phase (bitsIn (entry q)) (entry q .shift) (mosiBy (entry q))
-      (λ i. ap (λ b. mosiAfter b (bitsIn (entry q)) (entry q .shift) (suc i) (mosiBy (entry q) i)) h)
+      second-phase (bitsIn (begun q)) (begun q .entry .word) (mosiBy (begun q))
+      (λ i. ap (λ b. mosiAfter b (bitsIn (begun q)) (begun q .entry .word) (suc i) (mosiBy (begun q) i)) h)
       j less
 
-  shown-positive : cpha (q .spcr0) ≡ true → (j : ℕ) → 0 < j → j < bitsIn (entry q) * 2 →
-      mosiBy (entry q) j ≡ bitOut (entry q .shift) (bitsIn (entry q)) ((j - 1) / 2)
+  shown-positive : cpha (q .registers .spcr0) ≡ true → (j : ℕ) → 0 < j → j < bitsIn (begun q) * 2 →
+      mosiBy (begun q) j ≡ bitOut (begun q .entry .word) (bitsIn (begun q)) ((j - 1) / 2)
   shown-positive h zero pos less = absurd (omega arith)
   shown-positive h (suc j) pos less =
       let same : j ≡ suc j - 1 = omega arith in
-      shown-second h j (omega arith) ∙ ap (λ i. bitOut (entry q .shift) (bitsIn (entry q)) (i / 2)) same
+      shown-second h j (omega arith) ∙ ap (λ i. bitOut (begun q .entry .word) (bitsIn (begun q)) (i / 2)) same
 
-  shown : (j : ℕ) → j < bitsIn (entry q) * 2 → (cpha (q .spcr0) ≡ true → 0 < j) →
-      mosiBy (entry q) j ≡ bitOut (entry q .shift) (bitsIn (entry q)) (bitShown (cpha (q .spcr0)) j)
+  shown : (j : ℕ) → j < bitsIn (begun q) * 2 → (cpha (q .registers .spcr0) ≡ true → 0 < j) →
+      mosiBy (begun q) j ≡ bitOut (begun q .entry .word) (bitsIn (begun q)) (bitShown (cpha (q .registers .spcr0)) j)
   shown j less pos =
-      by-test (cpha (q .spcr0))
+      by-test (cpha (q .registers .spcr0))
       (λ h. shown-positive h j (pos h) less
-      ∙ ap (λ b. bitOut (entry q .shift) (bitsIn (entry q)) (bitShown b j)) (sym h))
+      ∙ ap (λ b. bitOut (begun q .entry .word) (bitsIn (begun q)) (bitShown b j)) (sym h))
       (λ h. shown-first h j less
-      ∙ ap (λ b. bitOut (entry q .shift) (bitsIn (entry q)) (bitShown b j)) (sym h))
+      ∙ ap (λ b. bitOut (begun q .entry .word) (bitsIn (begun q)) (bitShown b j)) (sym h))
 
   -- At edge 2n the last bit still shows.
-  held-first : cpha (q .spcr0) ≡ false → (j : ℕ) → suc j ≡ bitsIn (entry q) * 2 →
-      mosiBy (entry q) (suc j) ≡ bitOut (entry q .shift) (bitsIn (entry q)) (bitsIn (entry q) - 1)
+  held-first : cpha (q .registers .spcr0) ≡ false → (j : ℕ) → suc j ≡ bitsIn (begun q) * 2 →
+      mosiBy (begun q) (suc j) ≡ bitOut (begun q .entry .word) (bitsIn (begun q)) (bitsIn (begun q) - 1)
   unfolding mosiBy
   held-first h j e =
-      let half : j / 2 ≡ bitsIn (entry q) - 1 = omega arith in
-      ap (λ b. mosiAfter b (bitsIn (entry q)) (entry q .shift) (suc j) (mosiBy (entry q) j)) h
-      ∙ end-holds (bitsIn (entry q)) (entry q .shift) (mosiBy (entry q) j) (suc j) (omega arith) (omega arith)
-      ∙ shown-first h j (omega arith) ∙ ap (bitOut (entry q .shift) (bitsIn (entry q))) half
+      let half : j / 2 ≡ bitsIn (begun q) - 1 = omega arith in
+      ap (λ b. mosiAfter b (bitsIn (begun q)) (begun q .entry .word) (suc j) (mosiBy (begun q) j)) h
+      ∙ end-holds (bitsIn (begun q)) (begun q .entry .word) (mosiBy (begun q) j) (suc j) (omega arith) (omega arith)
+      ∙ shown-first h j (omega arith) ∙ ap (bitOut (begun q .entry .word) (bitsIn (begun q))) half
 
-  held-second : cpha (q .spcr0) ≡ true → (j : ℕ) → suc j ≡ bitsIn (entry q) * 2 →
-      mosiBy (entry q) (suc j) ≡ bitOut (entry q .shift) (bitsIn (entry q)) (bitsIn (entry q) - 1)
+  held-second : cpha (q .registers .spcr0) ≡ true → (j : ℕ) → suc j ≡ bitsIn (begun q) * 2 →
+      mosiBy (begun q) (suc j) ≡ bitOut (begun q .entry .word) (bitsIn (begun q)) (bitsIn (begun q) - 1)
   held-second h j e =
-      let half : j / 2 ≡ bitsIn (entry q) - 1 = omega arith in
-      shown-second h j (omega arith) ∙ ap (bitOut (entry q .shift) (bitsIn (entry q))) half
+      let half : j / 2 ≡ bitsIn (begun q) - 1 = omega arith in
+      shown-second h j (omega arith) ∙ ap (bitOut (begun q .entry .word) (bitsIn (begun q))) half
 
-  held : mosiBy (entry q) (bitsIn (entry q) * 2) ≡ bit 0 (entry q .shift)
+  held : mosiBy (begun q) (bitsIn (begun q) * 2) ≡ bit 0 (begun q .entry .word)
   held =
-      let full : suc (bitsIn (entry q) * 2 - 1) ≡ bitsIn (entry q) * 2 = omega arith in
-      let none : bitsIn (entry q) - 1 - (bitsIn (entry q) - 1) ≡ 0 = omega arith in
-      ap (mosiBy (entry q)) (sym full)
-      ∙ by-test (cpha (q .spcr0)) (λ h. held-second h (bitsIn (entry q) * 2 - 1) full)
-      (λ h. held-first h (bitsIn (entry q) * 2 - 1) full)
-      ∙ bit-out (entry q .shift) (bitsIn (entry q)) (bitsIn (entry q) - 1) few
-      ∙ ap (λ k. bit k (entry q .shift)) none
+      let full : suc (bitsIn (begun q) * 2 - 1) ≡ bitsIn (begun q) * 2 = omega arith in
+      let none : bitsIn (begun q) - 1 - (bitsIn (begun q) - 1) ≡ 0 = omega arith in
+      ap (mosiBy (begun q)) (sym full)
+      ∙ by-test (cpha (q .registers .spcr0)) (λ h. held-second h (bitsIn (begun q) * 2 - 1) full)
+      (λ h. held-first h (bitsIn (begun q) * 2 - 1) full)
+      ∙ bit-out (begun q .entry .word) (bitsIn (begun q)) (bitsIn (begun q) - 1) few
+      ∙ ap (λ k. bit k (begun q .entry .word)) none
 
 pub mosi-shows : MosiShows
 mosi-shows q pins s calm j d less within later pos =
-    ap (λ r. r .mosi) (edges-fall q pins s calm j d less within later)
+    ap (λ r. r .entry .mosi) (edges-fall q pins s calm j d less within later)
     ∙ shown q (bits-small _ _) (bits-pos _ _) j less pos
-    ∙ bit-out (entry q .shift) (bitsIn (entry q)) (bitShown (cpha (q .spcr0)) j) (bits-small _ _)
+    ∙ bit-out (begun q .entry .word) (bitsIn (begun q)) (bitShown (cpha (q .registers .spcr0)) j) (bits-small _ _)
 
 pub mosi-holds : MosiHolds
 mosi-holds q pins s calm =
-    ap (λ r. r .mosi) (last-edge q pins s calm) ∙ completed-keeps (λ r. r .mosi) _ refl refl refl ∙ held q (bits-small _ _) (bits-pos _ _)
+    ap (λ r. r .entry .mosi) (last-edge q pins s calm) ∙ completed-keeps (λ r. r .entry .mosi) _ refl refl refl ∙ held q (bits-small _ _) (bits-pos _ _)

@@ -3,56 +3,60 @@ use mathlib.Core.Path.{_≡_, refl, sym, ap, _∙_}
 use mathlib.Core.Bool.{Bool, true, false, not, _&&_, _||_, and-comm}
 use Prim.Native.Nat.{ℕ, zero, suc, _+_, _-_, _*_, _%_, _≤_, _<_}
 use native.Mathlib.Omega.{arith}
-use borrow.Author.Tests.{le-leb, lt-leb, lt-ltb, ltb-true}
+use lib.Dec.{leb, ltb}
+use borrow.Author.Tests.{le-leb, lt-leb, lt-ltb, ltb-true, leb-true, leb-false}
 use Rattle.steps.specs.Iterate.{iterate}
 use Rattle.steps.proofs.Iterate.{iterate-add}
 use Rattle.qspi.specs.Fields.{spe, cont, bitsOf}
-use Rattle.qspi.specs.Queue.{clock, queueClock, playClock, delayClock, startClock, ready, inDelay, misoOf, faultNow, edge, edgeFallen}
-use Rattle.qspi.specs.Quiet.{quiet, skipped, skippedIf, edgeNext}
-use Rattle.qspi.specs.State.{withCount}
+use Rattle.qspi.specs.Queue.{clock, queueClock, playClock, delayClock, startClock, ready, misoOf, faultNow, edge}
+use Rattle.qspi.specs.Entry.{edgeFallen, ticked, inDelay}
+use Rattle.qspi.specs.Quiet.{quiet, skipped, skippedIf, plays, untilEdge, edgeWithin}
+use Rattle.qspi.specs.Parts.{withEntry}
 use Rattle.qspi.specs.declared.Qspi.{Qspi}
 use Rattle.qspi.specs.declared.Pins.{Pins}
+use Rattle.qspi.specs.declared.entry.Entry.{Entry}
+use Rattle.qspi.proofs.Mosi.{by-test}
 
 -- What one clock is, by where the queue stands.
 module _ (q : Qspi) (pins : Pins) where
-  clock-off : spe (q .spcr1) ≡ false → clock q pins ≡ q
+  clock-off : spe (q .registers .spcr1) ≡ false → clock q pins ≡ q
   unfolding clock queueClock
   clock-off off =
       let safe : faultNow q pins ≡ false = rw off in
       rw (safe, off)
 
-  module _ (on : spe (q .spcr1) ≡ true) (safe : faultNow q pins ≡ false) where
-    clock-playing : q .playing ≡ true → clock q pins ≡ playClock (misoOf pins) q
+  module _ (on : spe (q .registers .spcr1) ≡ true) (safe : faultNow q pins ≡ false) where
+    clock-playing : q .entry .playing ≡ true → clock q pins ≡ playClock (misoOf pins) q
     unfolding clock queueClock
     clock-playing p = rw (safe, on, p)
 
-    clock-delaying : q .playing ≡ false → q .delaying ≡ true → clock q pins ≡ delayClock q
+    clock-delaying : q .entry .playing ≡ false → q .entry .delaying ≡ true → clock q pins ≡ delayClock q
     unfolding clock queueClock
     clock-delaying p d = rw (safe, on, p, d)
 
-    clock-waiting : q .playing ≡ false → q .delaying ≡ false → ready q ≡ false → clock q pins ≡ q
+    clock-waiting : q .entry .playing ≡ false → q .entry .delaying ≡ false → ready q ≡ false → clock q pins ≡ q
     unfolding clock queueClock startClock
     clock-waiting p d r = rw (safe, on, p, d, r)
 
-play-quiet : (miso : Bool) (q : Qspi) → 1 < q .left → playClock miso q ≡ withCount q (q .left - 1) (q .edges)
+play-quiet : (miso : Bool) (q : Qspi) → 1 < q .entry .left → playClock miso q ≡ withEntry q (ticked (q .entry))
 unfolding playClock
-play-quiet miso q more = rw (lt-leb (q .left) 1 more)
+play-quiet miso q more = rw (lt-leb (q .entry .left) 1 more)
 
-delay-quiet : (q : Qspi) → 1 < q .left → delayClock q ≡ inDelay q
+delay-quiet : (q : Qspi) → 1 < q .entry .left → delayClock q ≡ withEntry q (inDelay (q .entry))
 unfolding delayClock
-delay-quiet q more = rw (lt-leb (q .left) 1 more)
+delay-quiet q more = rw (lt-leb (q .entry .left) 1 more)
 
 -- What is skipped.
-skip-off : (k : ℕ) (q : Qspi) → spe (q .spcr1) ≡ false → skipped k q ≡ q
+skip-off : (k : ℕ) (q : Qspi) → spe (q .registers .spcr1) ≡ false → skipped k q ≡ q
 unfolding skipped
 skip-off zero q off = refl
 skip-off (suc k) q off = rw (off, lt-ltb 0 (suc k) (omega arith))
 
-skip-waiting : (k : ℕ) (q : Qspi) → q .playing ≡ false → q .delaying ≡ false → skipped k q ≡ q
+skip-waiting : (k : ℕ) (q : Qspi) → q .entry .playing ≡ false → q .entry .delaying ≡ false → skipped k q ≡ q
 unfolding skipped
 skip-waiting k q p d = rw (p, d, and-comm _ false)
 
-skip-running : (k : ℕ) (q : Qspi) → spe (q .spcr1) ≡ true → q .playing || q .delaying ≡ true →
+skip-running : (k : ℕ) (q : Qspi) → spe (q .registers .spcr1) ≡ true → q .entry .playing || q .entry .delaying ≡ true →
     skipped (suc k) q ≡ skippedIf true (suc k) q
 unfolding skipped
 skip-running k q on runs = rw (lt-ltb 0 (suc k) (omega arith), on, runs)
@@ -63,13 +67,13 @@ and-again true false = refl
 and-again false b = refl
 
 -- One more quiet clock.
-playing-next : (k : ℕ) (q : Qspi) (pins : Pins) → spe (q .spcr1) ≡ true → faultNow q pins ≡ false → q .playing ≡ true →
-    suc k ≤ q .left - 1 → clock (skipped k q) pins ≡ skipped (suc k) q
+playing-next : (k : ℕ) (q : Qspi) (pins : Pins) → spe (q .registers .spcr1) ≡ true → faultNow q pins ≡ false → q .entry .playing ≡ true →
+    suc k ≤ q .entry .left - 1 → clock (skipped k q) pins ≡ skipped (suc k) q
 unfolding skipped
 playing-next zero q pins on safe p more =
     clock-playing q pins on safe p ∙ play-quiet (misoOf pins) q (omega arith) ∙ rw (on, p)
 playing-next (suc k) q pins on safe p more =
-    let less : q .left - suc k - 1 ≡ q .left - suc (suc k) = omega arith in
+    let less : q .entry .left - suc k - 1 ≡ q .entry .left - suc (suc k) = omega arith in
     let s : Qspi = skippedIf true (suc k) q in
     ap (λ r. clock r pins) (skip-running k q on (rw p))
     ∙ clock-playing s pins on safe p
@@ -77,22 +81,22 @@ playing-next (suc k) q pins on safe p more =
     ∙ (rw less)
     ∙ sym (skip-running (suc k) q on (rw p))
 
-delaying-next : (k : ℕ) (q : Qspi) (pins : Pins) → spe (q .spcr1) ≡ true → faultNow q pins ≡ false → q .playing ≡ false →
-    q .delaying ≡ true → suc k ≤ q .left - 1 → clock (skipped k q) pins ≡ skipped (suc k) q
+delaying-next : (k : ℕ) (q : Qspi) (pins : Pins) → spe (q .registers .spcr1) ≡ true → faultNow q pins ≡ false → q .entry .playing ≡ false →
+    q .entry .delaying ≡ true → suc k ≤ q .entry .left - 1 → clock (skipped k q) pins ≡ skipped (suc k) q
 unfolding skipped
 delaying-next zero q pins on safe p d more =
-    clock-delaying q pins on safe p d ∙ delay-quiet q (omega arith) ∙ rw (on, p, d, and-comm (q .selecting) (cont (q .command)))
+    clock-delaying q pins on safe p d ∙ delay-quiet q (omega arith) ∙ rw (on, p, d, and-comm (q .entry .selecting) (cont (q .entry .command)))
 delaying-next (suc k) q pins on safe p d more =
-    let less : q .left - suc k - 1 ≡ q .left - suc (suc k) = omega arith in
+    let less : q .entry .left - suc k - 1 ≡ q .entry .left - suc (suc k) = omega arith in
     let s : Qspi = skippedIf true (suc k) q in
     ap (λ r. clock r pins) (skip-running k q on (rw (p, d)))
     ∙ clock-delaying s pins on safe p d
     ∙ delay-quiet s (omega arith)
-    ∙ (rw (less, p, and-again (cont (q .command)) (q .selecting)))
+    ∙ (rw (less, p, and-again (cont (q .entry .command)) (q .entry .selecting)))
     ∙ sym (skip-running (suc k) q on (rw (p, d)))
 
-quiet-next : (e f p d r : Bool) (k : ℕ) (q : Qspi) (pins : Pins) → spe (q .spcr1) ≡ e → faultNow q pins ≡ f →
-    q .playing ≡ p → q .delaying ≡ d → ready q ≡ r → suc k ≤ quiet q pins → clock (skipped k q) pins ≡ skipped (suc k) q
+quiet-next : (e f p d r : Bool) (k : ℕ) (q : Qspi) (pins : Pins) → spe (q .registers .spcr1) ≡ e → faultNow q pins ≡ f →
+    q .entry .playing ≡ p → q .entry .delaying ≡ d → ready q ≡ r → suc k ≤ quiet q pins → clock (skipped k q) pins ≡ skipped (suc k) q
 unfolding quiet
 quiet-next false f p d r k q pins off _ _ _ _ more =
     ap (λ s. clock s pins) (skip-off k q off) ∙ clock-off q pins off ∙ sym (skip-off (suc k) q off)
@@ -142,16 +146,22 @@ not-true : (b : Bool) → not b ≡ true → b ≡ false
 not-true true h = sym h
 not-true false h = refl
 
-play-edge : (miso : Bool) (q : Qspi) → q .left ≤ 1 → q .edges % 32 + 1 < bitsOf (q .spcr0) (q .command) * 2 →
-    playClock miso q ≡ edgeFallen (q .edges % 32 + 1) miso q
+play-edge : (miso : Bool) (q : Qspi) → q .entry .left ≤ 1 →
+    q .entry .edges % 32 + 1 < bitsOf (q .registers .spcr0) (q .entry .command) * 2 →
+    playClock miso q ≡ withEntry q (edgeFallen (q .registers .spcr0) (q .entry .edges % 32 + 1) miso (q .entry))
 unfolding playClock edge
 play-edge miso q due early =
-    rw (le-leb (q .left) 1 due, lt-leb (bitsOf (q .spcr0) (q .command) * 2) (q .edges % 32 + 1) early)
+    rw (
+      le-leb (q .entry .left) 1 due,
+      lt-leb (bitsOf (q .registers .spcr0) (q .entry .command) * 2) (q .entry .edges % 32 + 1) early,
+    )
 
-module _ (q : Qspi) (pins : Pins) (on : spe (q .spcr1) ≡ true) (safe : faultNow q pins ≡ false) (p : q .playing ≡ true)
-    (early : q .edges % 32 + 1 < bitsOf (q .spcr0) (q .command) * 2) where
-  skipped-edge : (k : ℕ) → k ≡ q .left - 1 →
-      clock (skipped k q) pins ≡ edgeFallen (q .edges % 32 + 1) (misoOf pins) q
+module _ (q : Qspi) (pins : Pins) (on : spe (q .registers .spcr1) ≡ true) (safe : faultNow q pins ≡ false)
+    (p : q .entry .playing ≡ true)
+    (early : q .entry .edges % 32 + 1 < bitsOf (q .registers .spcr0) (q .entry .command) * 2) where
+  skipped-edge : (k : ℕ) → k ≡ q .entry .left - 1 →
+      clock (skipped k q) pins
+      ≡ withEntry q (edgeFallen (q .registers .spcr0) (q .entry .edges % 32 + 1) (misoOf pins) (q .entry))
   unfolding skipped
   skipped-edge zero counted = clock-playing q pins on safe p ∙ play-edge (misoOf pins) q (omega arith) early
   skipped-edge (suc k) counted =
@@ -161,12 +171,38 @@ module _ (q : Qspi) (pins : Pins) (on : spe (q .spcr1) ≡ true) (safe : faultNo
       ∙ play-edge (misoOf pins) s (omega arith) early
       ∙ (rw p)
 
-pub edge-turn : (k : ℕ) (q : Qspi) (pins : Pins) → k ≡ quiet q pins → edgeNext q pins ≡ true →
-    edgeFallen (q .edges % 32 + 1) (misoOf pins) q ≡ clock (skipped k q) pins
-unfolding quiet
-edge-turn k q pins counted next =
-    let a : (((spe (q .spcr1) && not (faultNow q pins)) && q .playing) ≡ true) × (_ ≡ true) = and-parts _ _ next in
-    let b : ((spe (q .spcr1) && not (faultNow q pins)) ≡ true) × (q .playing ≡ true) = and-parts _ _ (a .0) in
-    let d : (spe (q .spcr1) ≡ true) × (not (faultNow q pins) ≡ true) = and-parts _ _ (b .0) in
-    let safe : faultNow q pins ≡ false = not-true _ (d .1) in
-    sym (skipped-edge q pins (d .0) safe (b .1) (ltb-true _ _ (a .1)) k (rw (safe, d .0, b .1) at counted))
+  quiet-here : quiet q pins ≡ q .entry .left - 1
+  unfolding quiet
+  quiet-here = rw (safe, on, p)
+
+until-edge : (e : Entry) → untilEdge e ≡ e .left - 1 + 1
+until-edge e = by-test (leb (e .left) 1)
+    (λ h. rw h (omega (arith, leb-true (e .left) 1 h))) (λ h. rw h (omega (arith, leb-false (e .left) 1 h)))
+
+-- The entry alone at such an edge stands for the queue after so many clocks.
+pub edge-turn : (n : ℕ) (q : Qspi) (e : Entry) (pins : Pins) → plays q pins ≡ true → e .playing ≡ q .entry .playing →
+    edgeWithin (q .registers .spcr0) n e ≡ true →
+    iterate (n - untilEdge e) (λ r. clock r pins)
+    (withEntry q (edgeFallen (q .registers .spcr0) (e .edges % 32 + 1) (misoOf pins) e))
+    ≡ iterate n (λ r. clock r pins) (withEntry q e)
+edge-turn n q e pins runs same next =
+    let a : ((spe (q .registers .spcr1) && not (faultNow q pins)) ≡ true) × (q .entry .playing ≡ true) =
+    and-parts (spe (q .registers .spcr1) && not (faultNow q pins)) (q .entry .playing) runs in
+    let b : (spe (q .registers .spcr1) ≡ true) × (not (faultNow q pins) ≡ true) =
+    and-parts (spe (q .registers .spcr1)) (not (faultNow q pins)) (a .0) in
+    let safe : faultNow q pins ≡ false = not-true (faultNow q pins) (b .1) in
+    let w : (leb (untilEdge e) n ≡ true) × (ltb (e .edges % 32 + 1) (bitsOf (q .registers .spcr0) (e .command) * 2) ≡ true) =
+    and-parts (leb (untilEdge e) n) (ltb (e .edges % 32 + 1) (bitsOf (q .registers .spcr0) (e .command) * 2)) next in
+    let p : e .playing ≡ true = same ∙ a .1 in
+    let early : e .edges % 32 + 1 < bitsOf (q .registers .spcr0) (e .command) * 2 = ltb-true (e .edges % 32 + 1) (bitsOf (q .registers .spcr0) (e .command) * 2) (w .1) in
+    let fits : e .left - 1 < n = omega (arith, until-edge e, leb-true (untilEdge e) n (w .0)) in
+    let rest : n - untilEdge e ≡ n - (e .left - 1 + 1) = ap (λ k. n - k) (until-edge e) in
+    ap (λ s. iterate (n - untilEdge e) (λ r. clock r pins) s)
+    (sym (skipped-edge (withEntry q e) pins (b .0) safe p early (e .left - 1) refl))
+    ∙ ap (λ k. iterate k (λ r. clock r pins) (clock (skipped (e .left - 1) (withEntry q e)) pins)) rest
+    ∙ turned (e .left - 1) n (withEntry q e) pins (sym (quiet-here (withEntry q e) pins (b .0) safe p early)) fits
+
+-- It has at least one clock, and not more than there are.
+pub edge-fits : (n spcr0 : ℕ) (e : Entry) → edgeWithin spcr0 n e ≡ true → (1 ≤ untilEdge e) × (untilEdge e ≤ n)
+edge-fits n spcr0 e next =
+    (omega (arith, until-edge e), leb-true (untilEdge e) n (and-parts (leb (untilEdge e) n) _ next .0))

@@ -9,8 +9,9 @@ use lib.ListN.{set}
 use borrow.Author.Tests.{eq-eqb, ne-eqb, eqb-true, eqb-false}
 use Rattle.steps.specs.Bits.{bit, digit}
 use Rattle.qspi.specs.Fields.{cpha}
-use Rattle.qspi.specs.Queue.{pushed, collectedAfter, entryAt, misoOf}
-use Rattle.qspi.specs.Entry.{entry, bitsIn, edgeClock, collectedBy, readingEdge, wordOf, bitsRead}
+use Rattle.qspi.specs.Entry.{pushed, collectedAfter}
+use Rattle.qspi.specs.Queue.{entryAt, begun, misoOf}
+use Rattle.qspi.specs.Run.{bitsIn, edgeClock, collectedBy, readingEdge, wordOf, bitsRead}
 use Rattle.qspi.specs.Laws.{WordStored, UnusedZero, BitsInOrder}
 use Rattle.qspi.specs.declared.Qspi.{Qspi}
 use Rattle.qspi.specs.declared.Pins.{Pins}
@@ -96,44 +97,44 @@ module _ (at : ℕ → Bool) (read : ℕ → ℕ) (base : read 0 ≡ 0) where
       ∙ ap (wordOf (λ i. at (i * 2 + 2))) same)
 
 -- All bits of an entry.
-module _ (q : Qspi) (pins : ℕ → Pins) (few : bitsIn (entry q) ≤ 16) where
-  by-phase : (b : Bool) → cpha (q .spcr0) ≡ b →
-      collectedBy (entry q) pins (bitsIn (entry q) * 2)
-      ≡ wordOf (λ i. misoOf (pins (edgeClock (entry q) (readingEdge b i)))) (bitsIn (entry q))
+module _ (q : Qspi) (pins : ℕ → Pins) (few : bitsIn (begun q) ≤ 16) where
+  by-phase : (b : Bool) → cpha (q .registers .spcr0) ≡ b →
+      collectedBy (begun q) pins (bitsIn (begun q) * 2)
+      ≡ wordOf (λ i. misoOf (pins (edgeClock (begun q) (readingEdge b i)))) (bitsIn (begun q))
   unfolding collectedBy
   by-phase false h =
-      let all : (bitsIn (entry q) * 2 + 1) / 2 ≡ bitsIn (entry q) = omega arith in
-      odd-edges (λ j. misoOf (pins (edgeClock (entry q) j))) (collectedBy (entry q) pins) refl
+      let all : (bitsIn (begun q) * 2 + 1) / 2 ≡ bitsIn (begun q) = omega arith in
+      odd-edges (λ j. misoOf (pins (edgeClock (begun q) j))) (collectedBy (begun q) pins) refl
       (λ j. ap
-      (λ b. collectedAfter b (suc j) (misoOf (pins (edgeClock (entry q) (suc j)))) (collectedBy (entry q) pins j))
+      (λ b. collectedAfter b (suc j) (misoOf (pins (edgeClock (begun q) (suc j)))) (collectedBy (begun q) pins j))
       h)
-      (bitsIn (entry q) * 2) (omega arith)
-      ∙ ap (wordOf (λ i. misoOf (pins (edgeClock (entry q) (i * 2 + 1))))) all
+      (bitsIn (begun q) * 2) (omega arith)
+      ∙ ap (wordOf (λ i. misoOf (pins (edgeClock (begun q) (i * 2 + 1))))) all
   by-phase true h =
-      let all : bitsIn (entry q) * 2 / 2 ≡ bitsIn (entry q) = omega arith in
-      even-edges (λ j. misoOf (pins (edgeClock (entry q) j))) (collectedBy (entry q) pins) refl
+      let all : bitsIn (begun q) * 2 / 2 ≡ bitsIn (begun q) = omega arith in
+      even-edges (λ j. misoOf (pins (edgeClock (begun q) j))) (collectedBy (begun q) pins) refl
       (λ j. ap
-      (λ b. collectedAfter b (suc j) (misoOf (pins (edgeClock (entry q) (suc j)))) (collectedBy (entry q) pins j))
+      (λ b. collectedAfter b (suc j) (misoOf (pins (edgeClock (begun q) (suc j)))) (collectedBy (begun q) pins j))
       h)
-      (bitsIn (entry q) * 2) (omega arith)
-      ∙ ap (wordOf (λ i. misoOf (pins (edgeClock (entry q) (i * 2 + 2))))) all
+      (bitsIn (begun q) * 2) (omega arith)
+      ∙ ap (wordOf (λ i. misoOf (pins (edgeClock (begun q) (i * 2 + 2))))) all
 
-  all-bits : collectedBy (entry q) pins (bitsIn (entry q) * 2) ≡ wordOf (bitsRead (entry q) pins) (bitsIn (entry q))
-  all-bits = by-phase (cpha (q .spcr0)) refl
+  all-bits : collectedBy (begun q) pins (bitsIn (begun q) * 2) ≡ wordOf (bitsRead (begun q) pins) (bitsIn (begun q))
+  all-bits = by-phase (cpha (q .registers .spcr0)) refl
 
 pub entry-small : (q : Qspi) → entryAt q % 16 ≡ entryAt q
-entry-small q = by-pending (q .pending)
+entry-small q = by-pending (q .next .pending)
   where
-    by-pending : (b : Bool) → cond b (q .spcr2 % 16) (q .pointer % 16) % 16 ≡ cond b (q .spcr2 % 16) (q .pointer % 16)
+    by-pending : (b : Bool) → cond b (q .registers .spcr2 % 16) (q .next .pointer % 16) % 16 ≡ cond b (q .registers .spcr2 % 16) (q .next .pointer % 16)
     by-pending true = omega arith
     by-pending false = omega arith
 
 pub word-stored : WordStored
 word-stored q pins s calm = (
-  ap (λ r. r .receive) (last-edge q pins s calm) ∙ completed-keeps (λ r. r .receive) _ refl refl refl
-      ∙ ap (λ i. set (q .receive) i (collectedBy (entry q) pins (bitsIn (entry q) * 2))) (entry-small q)
-      ∙ ap (set (q .receive) (entryAt q)) (all-bits q pins (bits-small _ _)),
-  ap (λ r. r .cptqp) (last-edge q pins s calm) ∙ completed-keeps (λ r. r .cptqp) _ refl refl refl
+  ap (λ r. r .ram .receive) (last-edge q pins s calm) ∙ completed-keeps (λ r. r .ram .receive) _ refl refl refl
+      ∙ ap (λ i. set (q .ram .receive) i (collectedBy (begun q) pins (bitsIn (begun q) * 2))) (entry-small q)
+      ∙ ap (set (q .ram .receive) (entryAt q)) (all-bits q pins (bits-small _ _)),
+  ap (λ r. r .spsr .cptqp) (last-edge q pins s calm) ∙ completed-keeps (λ r. r .spsr .cptqp) _ refl refl refl
       ∙ entry-small q,
 )
 

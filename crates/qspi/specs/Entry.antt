@@ -1,123 +1,107 @@
--- A run of the queue with no access in between, and the clocks of an entry.
-use mathlib.Core.Bool.{Bool, true, false, cond}
-use Prim.Native.Nat.{ℕ, zero, suc, _+_, _-_, _*_, _/_, _%_}
-use lib.ListN.{getD}
-use Rattle.steps.specs.Bits.{digit}
-use Rattle.qspi.specs.Fields.{cpha, spbr, endqp, cont, bitsOf, preDelay, delayAfter}
-use Rattle.qspi.specs.State.{withFlags, withPlace, withCount, withSelecting, withMosi, withCollected}
-use Rattle.qspi.specs.Queue.{mosiAfter, collectedAfter, entryAt, loaded, started, misoOf, clock}
-use Rattle.qspi.specs.declared.Qspi.{Qspi}
-use Rattle.qspi.specs.declared.Pins.{Pins}
+-- The entry under way: its bits on MOSI and MISO, its edges, the delay after it, and its end.
+use mathlib.Core.Bool.{Bool, true, false, cond, not, _&&_}
+use Prim.Native.Nat.{ℕ, _+_, _-_, _*_, _/_, _%_}
+use lib.Dec.{eqb, ltb}
+use Rattle.steps.specs.Bits.{bit, digit}
+use Rattle.qspi.specs.Fields.{cpha, spbr, cont, bitsOf, preDelay}
+use Rattle.qspi.specs.declared.entry.Entry.{Entry}
+use Rattle.qspi.specs.declared.registers.Registers.{Registers}
 
--- The state after c clocks; `pins c` are the pins in clock c, from 1 on.
-unfoldable pub run : (ℕ → Pins) → ℕ → Qspi → Qspi
-run pins zero q = q
-run pins (suc c) q = clock (run pins c q) (pins (suc c))
+-- MOSI changes on even edges for CPHA=0, on odd ones for CPHA=1; MISO is read on the others. Clock 1 stands for edge 0.
+abbrev pub changes : Bool → ℕ → Bool
+changes cpha j = cond cpha (eqb (j % 2) 1) (eqb (j % 2) 0)
 
--- The entry that clock 1 takes, before that clock is counted.
-abbrev pub entry : Qspi → Qspi
-entry q = started (loaded q)
+-- Bit i of the n that go out, highest first.
+abbrev pub bitOut : ℕ → ℕ → ℕ → Bool
+bitOut w n i = bit ((n - 1 - i) % 16) w
 
--- Its bits n, its pre-delay p, SPBR, and the delay after it.
-abbrev pub bitsIn : Qspi → ℕ
-bitsIn e = bitsOf (e .spcr0) (e .command)
+-- MOSI after edge j; otherwise it holds.
+unfoldable pub mosiAfter : Bool → ℕ → ℕ → ℕ → Bool → Bool
+mosiAfter cpha n w j mosi = cond (changes cpha j && ltb (j / 2) n) (bitOut w n (j / 2)) mosi
 
-abbrev pub preIn : Qspi → ℕ
-preIn e = preDelay (e .spcr0) (e .spcr1) (e .command)
+-- A bit read goes in below the bits before it.
+abbrev pub pushed : ℕ → Bool → ℕ
+pushed collected miso = collected % 32768 * 2 + digit miso
 
-abbrev pub spbrIn : Qspi → ℕ
-spbrIn e = spbr (e .spcr0)
+-- The bits read so far after edge j.
+unfoldable pub collectedAfter : Bool → ℕ → Bool → ℕ → ℕ
+collectedAfter cpha j miso collected = cond (changes (not cpha) j) (pushed collected miso) collected
 
-abbrev pub delayIn : Qspi → ℕ
-delayIn e = delayAfter (e .spcr1) (e .command)
+-- Clock 1 with this command and transmit word: the pre-delay begins, and the first bit is out for CPHA=0.
+abbrev pub started : Registers → ℕ → ℕ → Bool → Entry
+started r command word mosi =
+    record {
+      command = command;
+      word = word;
+      playing = true;
+      delaying = false;
+      halted = false;
+      left = preDelay (r .spcr0) (r .spcr1) command;
+      edges = 0;
+      mosi = mosiAfter (cpha (r .spcr0)) (bitsOf (r .spcr0) command) word 0 mosi;
+      collected = 0;
+      selecting = true;
+    }
 
--- Edge j falls at clock p + (j - 1) x SPBR of the entry; 'edge 0' is its beginning.
-abbrev pub edgeAt : ℕ → ℕ → ℕ → ℕ
-edgeAt p s zero = 0
-edgeAt p s (suc j) = p + j * s
+-- How far the bits have come: clocks to the next edge, edges fallen, MOSI, and the bits read.
+abbrev pub withBits : Entry → ℕ → ℕ → Bool → ℕ → Entry
+withBits e left edges mosi collected =
+    record {
+      command = e .command;
+      word = e .word;
+      playing = e .playing;
+      delaying = e .delaying;
+      halted = e .halted;
+      left = left;
+      edges = edges;
+      mosi = mosi;
+      collected = collected;
+      selecting = e .selecting;
+    }
 
-abbrev pub edgeClock : Qspi → ℕ → ℕ
-edgeClock e j = edgeAt (preIn e) (spbrIn e) j
+-- Edge j: MISO read or MOSI changed.
+abbrev pub edgeFallen : ℕ → ℕ → Bool → Entry → Entry
+edgeFallen spcr0 j miso e =
+    withBits e (spbr spcr0) j (mosiAfter (cpha spcr0) (bitsOf spcr0 (e .command)) (e .word) j (e .mosi))
+    (collectedAfter (cpha spcr0) j miso (e .collected))
 
--- Clocks from edge j to the next.
-abbrev pub gap : Qspi → ℕ → ℕ
-gap e zero = preIn e
-gap e (suc j) = spbrIn e
+-- A clock in which no edge falls.
+abbrev pub ticked : Entry → Entry
+ticked e = withBits e (e .left - 1) (e .edges) (e .mosi) (e .collected)
 
--- The clock of edge 2n, and the entry's length with its delay, from SPCR0, SPCR1 and the command.
-abbrev pub lastClockOf : ℕ → ℕ → ℕ → ℕ
-lastClockOf spcr0 spcr1 command =
-    edgeAt (preDelay spcr0 spcr1 command) (spbr spcr0) (bitsOf spcr0 command * 2)
+-- Where the entry stands, the count there, and whether the PCS show its command.
+abbrev pub withPlace : Entry → Bool → Bool → Bool → ℕ → ℕ → Bool → Entry
+withPlace e playing delaying halted left edges selecting =
+    record {
+      command = e .command;
+      word = e .word;
+      playing = playing;
+      delaying = delaying;
+      halted = halted;
+      left = left;
+      edges = edges;
+      mosi = e .mosi;
+      collected = e .collected;
+      selecting = selecting;
+    }
 
-abbrev pub lengthOf : ℕ → ℕ → ℕ → ℕ
-lengthOf spcr0 spcr1 command = lastClockOf spcr0 spcr1 command + delayAfter spcr1 command
+-- The delay after edge 2n.
+abbrev pub delayBegun : ℕ → Entry → Entry
+delayBegun clocks e = withPlace e false true false clocks 0 (e .selecting)
 
-abbrev pub lastClock : Qspi → ℕ
-lastClock e = lastClockOf (e .spcr0) (e .spcr1) (e .command)
+-- A clock of it: PCS stay only with CONT.
+abbrev pub inDelay : Entry → Entry
+inDelay e =
+    withPlace e (e .playing) (e .delaying) (e .halted) (e .left - 1) (e .edges) (e .selecting && cont (e .command))
 
-abbrev pub lengthIn : Qspi → ℕ
-lengthIn e = lengthOf (e .spcr0) (e .spcr1) (e .command)
+-- Its last clock, with HALT set or clear.
+abbrev pub delayOver : Bool → Entry → Entry
+delayOver halts e = withPlace e false false halts 0 (e .edges) (e .selecting && cont (e .command))
 
--- MOSI and the bits read, when j edges of the entry have fallen.
-unfoldable pub mosiBy : Qspi → ℕ → Bool
-mosiBy e zero = e .mosi
-mosiBy e (suc j) = mosiAfter (cpha (e .spcr0)) (bitsIn e) (e .shift) (suc j) (mosiBy e j)
+-- Start state: no entry runs, and PORTQS shows on the PCS.
+abbrev pub abandoned : Entry → Entry
+abandoned e = withPlace e false false false 0 0 false
 
-unfoldable pub collectedBy : Qspi → (ℕ → Pins) → ℕ → ℕ
-collectedBy e pins zero = e .collected
-collectedBy e pins (suc j) =
-    collectedAfter (cpha (e .spcr0)) (suc j) (misoOf (pins (edgeClock e (suc j)))) (collectedBy e pins j)
-
--- The entry when j edges have fallen and the next is `left` clocks off.
-abbrev pub during : Qspi → (ℕ → Pins) → ℕ → ℕ → Qspi
-during e pins j left = withCollected (withMosi (withCount e left j) (mosiBy e j)) (collectedBy e pins j)
-
--- In the delay, and after it, when HALT is clear.
-abbrev pub waiting : Qspi → ℕ → Qspi
-waiting q left = withSelecting (withCount q left (q .edges)) (cont (q .command))
-
-abbrev pub waited : Qspi → Qspi
-waited q = withSelecting (withCount (withPlace q false false false) 0 (q .edges)) (cont (q .command))
-
--- After it when HALT is set: HALTA has risen.
-abbrev pub stopped : Qspi → Qspi
-stopped q =
-    withSelecting
-    (withCount (withPlace (withFlags q (q .spif) (q .modf) true) false false true) 0 (q .edges))
-    (cont (q .command))
-
--- The bit of the word, counted from its highest, that MOSI shows when j edges have fallen.
-abbrev pub bitShown : Bool → ℕ → ℕ
-bitShown cpha j = cond cpha ((j - 1) / 2) (j / 2)
-
--- The edge on which bit i of the n is read, counted from the first: odd edges for CPHA=0, even for CPHA=1.
-abbrev pub readingEdge : Bool → ℕ → ℕ
-readingEdge cpha i = cond cpha (i * 2 + 2) (i * 2 + 1)
-
--- The first n bits as a word, the first one highest.
-unfoldable pub wordOf : (ℕ → Bool) → ℕ → ℕ
-wordOf bits zero = 0
-wordOf bits (suc i) = wordOf bits i * 2 + digit (bits i)
-
--- The bits that stand on MISO at the reading edges of an entry.
-abbrev pub bitsRead : Qspi → (ℕ → Pins) → ℕ → Bool
-bitsRead e pins i = misoOf (pins (edgeClock e (readingEdge (cpha (e .spcr0)) i)))
-
--- Entry number k of a queue that starts at q, its command, and the clocks before its clock 1.
-abbrev pub entryNo : Qspi → ℕ → ℕ
-entryNo q k = (entryAt q + k) % 16
-
-abbrev pub commandNo : Qspi → ℕ → ℕ
-commandNo q k = getD (q .commands) (entryNo q k) 0
-
-unfoldable pub beginsAt : Qspi → ℕ → ℕ
-beginsAt q zero = 0
-beginsAt q (suc k) = beginsAt q k + lengthOf (q .spcr0) (q .spcr1) (commandNo q k)
-
--- How many entries stand before the one at ENDQP, modulo 16.
-abbrev pub entriesBefore : Qspi → ℕ
-entriesBefore q = (endqp (q .spcr2) + 16 - entryAt q) % 16
-
--- The clock of edge 2n of the entry at ENDQP.
-abbrev pub endsAt : Qspi → ℕ
-endsAt q = beginsAt q (entriesBefore q) + lastClockOf (q .spcr0) (q .spcr1) (commandNo q (entriesBefore q))
+-- MOSI 0 until the first bit.
+abbrev pub silent : Entry → Entry
+silent e = withBits e (e .left) (e .edges) false (e .collected)

@@ -1,12 +1,13 @@
 pub mod Parts
-pub mod State
 pub mod Fields
+pub mod Spsr
+pub mod Entry
 pub mod Registers
 pub mod Ram
 pub mod Queue
 pub mod Quiet
 pub mod Outputs
-pub mod Entry
+pub mod Run
 pub mod Laws
 pub mod Marked
 pub mod Shown

@@ -6,7 +6,7 @@ use Rattle.qspi.specs.Fields.{spe}
 use Rattle.qspi.specs.Registers.{reset, writeSpcr0, writeSpcr1, writeSpcr2}
 use Rattle.qspi.specs.Ram.{writeCommand}
 use Rattle.qspi.specs.Queue.{entryAt}
-use Rattle.qspi.specs.Entry.{run, lengthOf}
+use Rattle.qspi.specs.Run.{run, lengthOf}
 use Rattle.qspi.specs.Laws.{Starting, Calm, QueueOver}
 use Rattle.qspi.specs.declared.Qspi.{Qspi}
 use Rattle.qspi.specs.declared.Pins.{Pins}
@@ -33,14 +33,14 @@ longest = setUp 0x81FF 0x0F00 0x6060 0x8400
 abbrev pub K7 : Type 0
 K7 =
     (pins : ℕ → Pins) → Calm pins →
-    (run pins 63 plain .edges ≡ 15) × (run pins 64 plain .delaying ≡ true) × (run pins 80 plain .delaying ≡ true)
+    (run pins 63 plain .entry .edges ≡ 15) × (run pins 64 plain .entry .delaying ≡ true) × (run pins 80 plain .entry .delaying ≡ true)
     × Starting (run pins 81 plain)
 
 -- 16 such entries end at clock 1,279.
 abbrev pub K8 : Type 0
 K8 =
     (pins : ℕ → Pins) → Calm pins →
-    (spe (run pins 1278 plain .spcr1) ≡ true) × (run pins 1278 plain .spif ≡ false)
+    (spe (run pins 1278 plain .registers .spcr1) ≡ true) × (run pins 1278 plain .spsr .flags .spif ≡ false)
     × QueueOver plain (run pins 1279 plain)
 
 -- The longest entry is 16,352 clocks.
@@ -48,7 +48,7 @@ abbrev pub K9 : Type 0
 K9 =
     ((spcr0 spcr1 command : ℕ) → lengthOf spcr0 spcr1 command ≤ 16352)
     × ((pins : ℕ → Pins) → Calm pins →
-    (run pins 16351 longest .delaying ≡ true) × Starting (run pins 16352 longest))
+    (run pins 16351 longest .entry .delaying ≡ true) × Starting (run pins 16352 longest))
 
 -- NEWQP 14, ENDQP 1 runs 14, 15, 0, 1.
 abbrev pub K10 : Type 0

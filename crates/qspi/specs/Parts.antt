@@ -1,203 +1,22 @@
--- The state with one of its parts replaced.
-use mathlib.Core.Bool.{Bool}
-use mathlib.Core.List.{List}
-use Prim.Native.Nat.{ℕ}
+-- The queue with one of its parts replaced.
 use Rattle.qspi.specs.declared.Qspi.{Qspi}
+use Rattle.qspi.specs.declared.entry.Entry.{Entry}
+use Rattle.qspi.specs.declared.queue.Next.{Next}
+use Rattle.qspi.specs.declared.ram.Ram.{Ram}
+use Rattle.qspi.specs.declared.registers.Registers.{Registers}
+use Rattle.qspi.specs.declared.spsr.Spsr.{Spsr}
 
--- The registers.
-abbrev pub withRegisters : Qspi → ℕ → ℕ → ℕ → ℕ → Qspi
-withRegisters q spcr0 spcr1 spcr2 spcr3 =
-    record {
-      spcr0 = spcr0;
-      spcr1 = spcr1;
-      spcr2 = spcr2;
-      spcr3 = spcr3;
-      spif = q .spif;
-      modf = q .modf;
-      halta = q .halta;
-      «spif_seen» = q .«spif_seen»;
-      «modf_seen» = q .«modf_seen»;
-      «halta_seen» = q .«halta_seen»;
-      cptqp = q .cptqp;
-      working = q .working;
-      pointer = q .pointer;
-      pending = q .pending;
-      playing = q .playing;
-      delaying = q .delaying;
-      halted = q .halted;
-      left = q .left;
-      edges = q .edges;
-      command = q .command;
-      shift = q .shift;
-      mosi = q .mosi;
-      collected = q .collected;
-      selecting = q .selecting;
-      receive = q .receive;
-      transmit = q .transmit;
-      commands = q .commands;
-    }
+abbrev pub withRegisters : Qspi → Registers → Qspi
+withRegisters q r = record { registers = r; spsr = q .spsr; next = q .next; entry = q .entry; ram = q .ram }
 
--- SPSR: its flags, which of them a read saw, and CPTQP.
-abbrev pub withStatus : Qspi → Bool → Bool → Bool → Bool → Bool → Bool → ℕ → Qspi
-withStatus q spif modf halta spifSeen modfSeen haltaSeen cptqp =
-    record {
-      spcr0 = q .spcr0;
-      spcr1 = q .spcr1;
-      spcr2 = q .spcr2;
-      spcr3 = q .spcr3;
-      spif = spif;
-      modf = modf;
-      halta = halta;
-      «spif_seen» = spifSeen;
-      «modf_seen» = modfSeen;
-      «halta_seen» = haltaSeen;
-      cptqp = cptqp;
-      working = q .working;
-      pointer = q .pointer;
-      pending = q .pending;
-      playing = q .playing;
-      delaying = q .delaying;
-      halted = q .halted;
-      left = q .left;
-      edges = q .edges;
-      command = q .command;
-      shift = q .shift;
-      mosi = q .mosi;
-      collected = q .collected;
-      selecting = q .selecting;
-      receive = q .receive;
-      transmit = q .transmit;
-      commands = q .commands;
-    }
+abbrev pub withSpsr : Qspi → Spsr → Qspi
+withSpsr q s = record { registers = q .registers; spsr = s; next = q .next; entry = q .entry; ram = q .ram }
 
--- Which entry comes next: the working copy of SPCR2, the pointer and a pending NEWQP.
-abbrev pub withNext : Qspi → ℕ → ℕ → Bool → Qspi
-withNext q working pointer pending =
-    record {
-      spcr0 = q .spcr0;
-      spcr1 = q .spcr1;
-      spcr2 = q .spcr2;
-      spcr3 = q .spcr3;
-      spif = q .spif;
-      modf = q .modf;
-      halta = q .halta;
-      «spif_seen» = q .«spif_seen»;
-      «modf_seen» = q .«modf_seen»;
-      «halta_seen» = q .«halta_seen»;
-      cptqp = q .cptqp;
-      working = working;
-      pointer = pointer;
-      pending = pending;
-      playing = q .playing;
-      delaying = q .delaying;
-      halted = q .halted;
-      left = q .left;
-      edges = q .edges;
-      command = q .command;
-      shift = q .shift;
-      mosi = q .mosi;
-      collected = q .collected;
-      selecting = q .selecting;
-      receive = q .receive;
-      transmit = q .transmit;
-      commands = q .commands;
-    }
+abbrev pub withNext : Qspi → Next → Qspi
+withNext q n = record { registers = q .registers; spsr = q .spsr; next = n; entry = q .entry; ram = q .ram }
 
--- How far the entry has come.
-abbrev pub withProgress : Qspi → Bool → Bool → Bool → ℕ → ℕ → Qspi
-withProgress q playing delaying halted left edges =
-    record {
-      spcr0 = q .spcr0;
-      spcr1 = q .spcr1;
-      spcr2 = q .spcr2;
-      spcr3 = q .spcr3;
-      spif = q .spif;
-      modf = q .modf;
-      halta = q .halta;
-      «spif_seen» = q .«spif_seen»;
-      «modf_seen» = q .«modf_seen»;
-      «halta_seen» = q .«halta_seen»;
-      cptqp = q .cptqp;
-      working = q .working;
-      pointer = q .pointer;
-      pending = q .pending;
-      playing = playing;
-      delaying = delaying;
-      halted = halted;
-      left = left;
-      edges = edges;
-      command = q .command;
-      shift = q .shift;
-      mosi = q .mosi;
-      collected = q .collected;
-      selecting = q .selecting;
-      receive = q .receive;
-      transmit = q .transmit;
-      commands = q .commands;
-    }
+abbrev pub withEntry : Qspi → Entry → Qspi
+withEntry q e = record { registers = q .registers; spsr = q .spsr; next = q .next; entry = e; ram = q .ram }
 
--- What the entry took, what it has read, and what it shows.
-abbrev pub withEntry : Qspi → ℕ → ℕ → Bool → ℕ → Bool → Qspi
-withEntry q command shift mosi collected selecting =
-    record {
-      spcr0 = q .spcr0;
-      spcr1 = q .spcr1;
-      spcr2 = q .spcr2;
-      spcr3 = q .spcr3;
-      spif = q .spif;
-      modf = q .modf;
-      halta = q .halta;
-      «spif_seen» = q .«spif_seen»;
-      «modf_seen» = q .«modf_seen»;
-      «halta_seen» = q .«halta_seen»;
-      cptqp = q .cptqp;
-      working = q .working;
-      pointer = q .pointer;
-      pending = q .pending;
-      playing = q .playing;
-      delaying = q .delaying;
-      halted = q .halted;
-      left = q .left;
-      edges = q .edges;
-      command = command;
-      shift = shift;
-      mosi = mosi;
-      collected = collected;
-      selecting = selecting;
-      receive = q .receive;
-      transmit = q .transmit;
-      commands = q .commands;
-    }
-
--- The queue RAM.
-abbrev pub withRam : Qspi → List ℕ → List ℕ → List ℕ → Qspi
-withRam q receive transmit commands =
-    record {
-      spcr0 = q .spcr0;
-      spcr1 = q .spcr1;
-      spcr2 = q .spcr2;
-      spcr3 = q .spcr3;
-      spif = q .spif;
-      modf = q .modf;
-      halta = q .halta;
-      «spif_seen» = q .«spif_seen»;
-      «modf_seen» = q .«modf_seen»;
-      «halta_seen» = q .«halta_seen»;
-      cptqp = q .cptqp;
-      working = q .working;
-      pointer = q .pointer;
-      pending = q .pending;
-      playing = q .playing;
-      delaying = q .delaying;
-      halted = q .halted;
-      left = q .left;
-      edges = q .edges;
-      command = q .command;
-      shift = q .shift;
-      mosi = q .mosi;
-      collected = q .collected;
-      selecting = q .selecting;
-      receive = receive;
-      transmit = transmit;
-      commands = commands;
-    }
+abbrev pub withRam : Qspi → Ram → Qspi
+withRam q m = record { registers = q .registers; spsr = q .spsr; next = q .next; entry = q .entry; ram = m }

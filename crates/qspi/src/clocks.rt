@@ -2,10 +2,12 @@
 ghost use mathlib.Core.Path.{_≡_};
 ghost use Rattle.steps.specs.Iterate.{iterate};
 ghost use Rattle.qspi.specs.Queue.{clock};
-ghost use Rattle.qspi.specs.Quiet.{beforeChange, quietIf, quiet, skippedIf, skipped, edgeNext};
+ghost use Rattle.qspi.specs.Quiet.{countedDown, beforeChange, quietIf, quiet, skippedIf, skipped, plays, untilEdge, edgeWithin};
 use crate::Pins;
 use crate::Qspi;
+use crate::entry::Entry;
 use crate::fields::bits_of;
+use crate::fields::choose_word;
 use crate::fields::cont;
 use crate::fields::minus;
 use crate::fields::spe;
@@ -21,6 +23,32 @@ fn before_change(running: bool, ready: bool, left: u16) -> u16
     if ready { 0 } else { 65535 }
 }
 
+impl Entry {
+    // k quiet clocks. In the delay PCS stay only with CONT.
+    fn counted_down(mut self, k: u16) -> Entry
+        ensures { λ r. ⌜ r ≡ countedDown k self ⌝ }
+    {
+        self.left = minus(self.left, k);
+        self.selecting = (self.playing | cont(self.command)) & self.selecting;
+        self
+    }
+
+    // Clocks to the next edge, with its own.
+    fn until_edge(self) -> u16
+        ensures { λ r. ⌜ r ≡ untilEdge self ⌝ }
+    {
+        choose_word(self.left <= 1, 1, self.left)
+    }
+
+    // An edge before edge 2n falls in the next n clocks.
+    fn edge_within(self, spcr0: u16, n: u16) -> bool
+        ensures { λ r. ⌜ r ≡ edgeWithin spcr0 n self ⌝ }
+    {
+        let early = ((self.edges % 32 + 1) as u16) < bits_of(spcr0, self.command) * 2;
+        (self.until_edge() <= n) & early
+    }
+}
+
 impl Qspi {
     fn quiet_if(self, enabled: bool, fault: bool) -> u16
         ensures { λ r. ⌜ r ≡ quietIf enabled fault self ⌝ }
@@ -29,7 +57,11 @@ impl Qspi {
             if fault {
                 0
             } else {
-                before_change(self.playing | self.delaying, self.ready(), self.left)
+                before_change(
+                    self.entry.playing | self.entry.delaying,
+                    self.ready(),
+                    self.entry.left,
+                )
             }
         } else {
             65535
@@ -39,15 +71,15 @@ impl Qspi {
     fn quiet(self, pins: Pins) -> u16
         ensures { λ r. ⌜ r ≡ quiet self pins ⌝ }
     {
-        self.quiet_if(spe(self.spcr1), self.fault_now(pins))
+        self.quiet_if(spe(self.registers.spcr1), self.fault_now(pins))
     }
 
     fn skipped_if(mut self, counts: bool, k: u16) -> Qspi
         ensures { λ r. ⌜ r ≡ skippedIf counts k self ⌝ }
     {
         if counts {
-            self.left = minus(self.left, k);
-            self.selecting = (self.playing | cont(self.command)) & self.selecting;
+            let entry = self.entry;
+            self.entry = entry.counted_down(k);
             return self;
         }
         self
@@ -58,35 +90,40 @@ impl Qspi {
         ensures { λ r. ⌜ r ≡ skipped k self ⌝ }
     {
         self.skipped_if(
-            (0 < k) & spe(self.spcr1) & (self.playing | self.delaying),
+            (0 < k) & spe(self.registers.spcr1) & (self.entry.playing | self.entry.delaying),
             k,
         )
     }
 
-    // The quiet clocks are followed by an edge before edge 2n.
-    fn edge_next(self, pins: Pins) -> bool
-        ensures { λ r. ⌜ r ≡ edgeNext self pins ⌝ }
+    // An entry runs, with no mode fault due.
+    fn plays(self, pins: Pins) -> bool
+        ensures { λ r. ⌜ r ≡ plays self pins ⌝ }
     {
-        let early = ((self.edges % 32 + 1) as u16) < bits_of(self.spcr0, self.command) * 2;
-        spe(self.spcr1) & !self.fault_now(pins) & self.playing & early
+        spe(self.registers.spcr1) & !self.fault_now(pins) & self.entry.playing
     }
 
-    // n clocks, each run of quiet ones at once.
+    // n clocks, each run of quiet ones at once, and the edges before edge 2n in the entry alone.
     fn played(self, n: u16, pins: Pins) -> Qspi
         ensures { λ r. ⌜ r ≡ iterate n (λ q. clock q pins) self ⌝ }
     {
+        let miso = miso_of(pins);
         let mut q = self;
         let mut left = n;
         while 0 < left {
+            if q.plays(pins) {
+                let spcr0 = q.registers.spcr0;
+                let mut e = q.entry;
+                while e.edge_within(spcr0, left) {
+                    left -= e.until_edge();
+                    e = e.edge_fallen(spcr0, e.edges % 32 + 1, miso);
+                }
+                q.entry = e;
+            }
             let k = q.quiet(pins);
             if left <= k {
                 return q.skipped(left);
             }
-            if q.edge_next(pins) {
-                q = q.edge_fallen(q.edges % 32 + 1, miso_of(pins));
-            } else {
-                q = q.skipped(k).clock(pins);
-            }
+            q = q.skipped(k).clock(pins);
             left -= k + 1;
         }
         q

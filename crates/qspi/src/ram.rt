@@ -1,62 +1,44 @@
 // The queue RAM by words and their byte lanes.
 ghost use mathlib.Core.Path.{_≡_};
-ghost use Rattle.qspi.specs.Ram.{receiveWord, transmitWord, commandWord, writeReceive, writeTransmit, commandsSet, writeCommand};
+ghost use Prim.Native.Nat.{_%_};
+ghost use Rattle.qspi.specs.Ram.{receiveWord, transmitWord, commandWord, withReceived, withTransmit, withCommands, writeReceive, writeTransmit, writeCommand};
 use crate::Qspi;
 use steps::lower_byte;
 use steps::merge;
 use steps::upper_byte;
 use steps::word;
 
-impl Qspi {
-    // Ruled out: a transmit word; always word 0.
-    pub fn receive_word(self, i: u8) -> u16
-        ensures { λ r. ⌜ r ≡ receiveWord self i ⌝ }
-    {
-        let receive = self.receive;
-        receive[(i % 16) as usize]
-    }
+#[repr(C)]
+pub struct Ram {
+    pub receive: [u16; 16],
+    pub transmit: [u16; 16],
+    pub commands: [u8; 16],
+}
 
-    // Ruled out: a receive word; always word 0.
-    pub fn transmit_word(self, i: u8) -> u16
-        ensures { λ r. ⌜ r ≡ transmitWord self i ⌝ }
+// One word replaced.
+impl Ram {
+    // Ruled out: a transmit word replaced; another word.
+    pub fn received(mut self, i: u8, w: u16) -> Ram
+        ensures { λ r. ⌜ r ≡ withReceived self (i % 16) w ⌝ }
     {
-        let transmit = self.transmit;
-        transmit[(i % 16) as usize]
-    }
-
-    // Ruled out: the two bytes swapped; byte i for byte 2i.
-    pub fn command_word(self, i: u8) -> u16
-        ensures { λ r. ⌜ r ≡ commandWord self i ⌝ }
-    {
-        let at = (i % 8 * 2) as usize;
-        let commands = self.commands;
-        word(commands[at], commands[at + 1])
-    }
-
-    // Ruled out: an untouched byte changed; another word changed.
-    pub fn write_receive(mut self, i: u8, v: u16, upper: bool, lower: bool) -> Qspi
-        ensures { λ r. ⌜ r ≡ writeReceive self i v upper lower ⌝ }
-    {
-        let at = (i % 16) as usize;
         let mut receive = self.receive;
-        receive[at] = merge(receive[at], v, upper, lower);
+        receive[(i % 16) as usize] = w;
         self.receive = receive;
         self
     }
 
-    // Ruled out: an untouched byte changed; the word that an entry took changed.
-    pub fn write_transmit(mut self, i: u8, v: u16, upper: bool, lower: bool) -> Qspi
-        ensures { λ r. ⌜ r ≡ writeTransmit self i v upper lower ⌝ }
+    fn to_transmit(mut self, i: u8, w: u16) -> Ram
+        ensures { λ r. ⌜ r ≡ withTransmit self (i % 16) w ⌝ }
     {
-        let at = (i % 16) as usize;
         let mut transmit = self.transmit;
-        transmit[at] = merge(transmit[at], v, upper, lower);
+        transmit[(i % 16) as usize] = w;
         self.transmit = transmit;
         self
     }
 
-    fn commands_set(mut self, i: u8, w: u16) -> Qspi
-        ensures { λ r. ⌜ r ≡ commandsSet self i w ⌝ }
+    // Command bytes 2i and 2i + 1.
+    fn commanded(mut self, i: u8, w: u16) -> Ram
+        ensures { λ r. ⌜ r ≡ withCommands self (i % 8) w ⌝ }
     {
         let at = (i % 8 * 2) as usize;
         let mut commands = self.commands;
@@ -65,11 +47,61 @@ impl Qspi {
         self.commands = commands;
         self
     }
+}
+
+impl Qspi {
+    // Ruled out: a transmit word; always word 0.
+    pub fn receive_word(self, i: u8) -> u16
+        ensures { λ r. ⌜ r ≡ receiveWord self i ⌝ }
+    {
+        let receive = self.ram.receive;
+        receive[(i % 16) as usize]
+    }
+
+    // Ruled out: a receive word; always word 0.
+    pub fn transmit_word(self, i: u8) -> u16
+        ensures { λ r. ⌜ r ≡ transmitWord self i ⌝ }
+    {
+        let transmit = self.ram.transmit;
+        transmit[(i % 16) as usize]
+    }
+
+    // Ruled out: the two bytes swapped; byte i for byte 2i.
+    pub fn command_word(self, i: u8) -> u16
+        ensures { λ r. ⌜ r ≡ commandWord self i ⌝ }
+    {
+        let at = (i % 8 * 2) as usize;
+        let commands = self.ram.commands;
+        word(commands[at], commands[at + 1])
+    }
+
+    // Ruled out: an untouched byte changed; another word changed.
+    pub fn write_receive(mut self, i: u8, v: u16, upper: bool, lower: bool) -> Qspi
+        ensures { λ r. ⌜ r ≡ writeReceive self i v upper lower ⌝ }
+    {
+        let w = merge(self.receive_word(i), v, upper, lower);
+        let ram = self.ram;
+        self.ram = ram.received(i, w);
+        self
+    }
+
+    // Ruled out: an untouched byte changed; the word that an entry took changed.
+    pub fn write_transmit(mut self, i: u8, v: u16, upper: bool, lower: bool) -> Qspi
+        ensures { λ r. ⌜ r ≡ writeTransmit self i v upper lower ⌝ }
+    {
+        let w = merge(self.transmit_word(i), v, upper, lower);
+        let ram = self.ram;
+        self.ram = ram.to_transmit(i, w);
+        self
+    }
 
     // Ruled out: the two bytes swapped; an untouched byte changed.
-    pub fn write_command(self, i: u8, v: u16, upper: bool, lower: bool) -> Qspi
+    pub fn write_command(mut self, i: u8, v: u16, upper: bool, lower: bool) -> Qspi
         ensures { λ r. ⌜ r ≡ writeCommand self i v upper lower ⌝ }
     {
-        self.commands_set(i, merge(self.command_word(i), v, upper, lower))
+        let w = merge(self.command_word(i), v, upper, lower);
+        let ram = self.ram;
+        self.ram = ram.commanded(i, w);
+        self
     }
 }

@@ -1,21 +1,37 @@
 // The queue's registers as words: reset, reads, writes by byte lanes, and what a write is refused for.
 ghost use mathlib.Core.Path.{_≡_};
-ghost use Prim.Native.Nat.{_≤_};
-ghost use Rattle.steps.specs.Bits.{digit};
-ghost use Rattle.qspi.specs.Registers.{reset, status, spcr3Spsr, statusRead, abandoned, risen, switched, writeSpcr0, writeSpcr1, spcr2Bits, writeSpcr2, falls, flagsFallen, writeSpcr3Spsr, spcr0Unmodelled, spcr1Unmodelled, spcr3Unmodelled, spcr0Guarded, spcr1Guarded};
+ghost use mathlib.Core.Bool.{true, false};
+ghost use Rattle.qspi.specs.Registers.{disabled, reset, spcr0Word, spcr1Word, spcr2Word, spcr3Spsr, statusRead, risen, switched, writeSpcr0, writeSpcr1, spcr2Bits, writeSpcr2, writeSpcr3Spsr, spcr0Unmodelled, spcr1Unmodelled, spcr3Unmodelled, spcr0Guarded, spcr1Guarded};
 use crate::Qspi;
+use crate::entry::Entry;
 use crate::fields::mstr;
 use crate::fields::spe;
+use crate::queue::Next;
+use crate::ram::Ram;
+use crate::spsr::Flags;
+use crate::spsr::Spsr;
 use steps::choose;
 use steps::merge;
 use steps::upper_byte;
 use steps::word;
 
-fn digit(b: bool) -> u8
-    ensures value { λ r. ⌜ r ≡ digit b ⌝ }
-    ensures small { λ r. ⌜ r ≤ 1 ⌝ }
-{
-    if b { 1 } else { 0 }
+#[repr(C)]
+pub struct Registers {
+    pub spcr0: u16,
+    pub spcr1: u16,
+    pub spcr2: u16,
+    pub spcr3: u8,
+}
+
+impl Registers {
+    // SPE falls.
+    // Ruled out: SPE kept; DSCKL or DTL cleared with it.
+    pub fn disabled(mut self) -> Registers
+        ensures { λ r. ⌜ r ≡ disabled self ⌝ }
+    {
+        self.spcr1 = self.spcr1 % 32768;
+        self
+    }
 }
 
 // A word of SPCR2 without the bits that don't exist.
@@ -23,12 +39,6 @@ fn spcr2_bits(w: u16) -> u16
     ensures { λ r. ⌜ r ≡ spcr2Bits w ⌝ }
 {
     w / 8192 * 8192 + w / 256 % 16 * 256 + w % 16
-}
-
-fn falls(lower: bool, seen: bool, one: bool) -> bool
-    ensures { λ r. ⌜ r ≡ falls lower seen one ⌝ }
-{
-    lower & seen & !one
 }
 
 // Ruled out: WOMQ alone; BITS of 0 or 8; a write of the lower byte.
@@ -51,105 +61,103 @@ impl Qspi {
     pub fn reset() -> Qspi
         ensures { λ r. ⌜ r ≡ reset ⌝ }
     {
-        Qspi {
-            spcr0: 0x0104,
-            spcr1: 0x0404,
-            spcr2: 0,
-            spcr3: 0,
+        let none = Flags {
             spif: false,
             modf: false,
             halta: false,
-            spif_seen: false,
-            modf_seen: false,
-            halta_seen: false,
-            cptqp: 0,
-            working: 0,
-            pointer: 0,
-            pending: false,
-            playing: false,
-            delaying: false,
-            halted: false,
-            left: 0,
-            edges: 0,
-            command: 0,
-            shift: 0,
-            mosi: false,
-            collected: 0,
-            selecting: false,
-            receive: [0; 16],
-            transmit: [0; 16],
-            commands: [0; 16],
+        };
+        Qspi {
+            registers: Registers {
+                spcr0: 0x0104,
+                spcr1: 0x0404,
+                spcr2: 0,
+                spcr3: 0,
+            },
+            spsr: Spsr {
+                flags: none,
+                seen: none,
+                cptqp: 0,
+            },
+            next: Next {
+                working: 0,
+                pointer: 0,
+                pending: false,
+            },
+            entry: Entry {
+                command: 0,
+                word: 0,
+                playing: false,
+                delaying: false,
+                halted: false,
+                left: 0,
+                edges: 0,
+                mosi: false,
+                collected: 0,
+                selecting: false,
+            },
+            ram: Ram {
+                receive: [0; 16],
+                transmit: [0; 16],
+                commands: [0; 16],
+            },
         }
     }
 
     // Ruled out: another register.
     pub fn spcr0(self) -> u16
-        ensures { λ r. ⌜ r ≡ self .spcr0 ⌝ }
+        ensures { λ r. ⌜ r ≡ spcr0Word self ⌝ }
     {
-        self.spcr0
+        self.registers.spcr0
     }
 
     // Ruled out: another register.
     pub fn spcr1(self) -> u16
-        ensures { λ r. ⌜ r ≡ self .spcr1 ⌝ }
+        ensures { λ r. ⌜ r ≡ spcr1Word self ⌝ }
     {
-        self.spcr1
+        self.registers.spcr1
     }
 
     // Ruled out: the working copy.
     pub fn spcr2(self) -> u16
-        ensures { λ r. ⌜ r ≡ self .spcr2 ⌝ }
+        ensures { λ r. ⌜ r ≡ spcr2Word self ⌝ }
     {
-        self.spcr2
-    }
-
-    fn status(self) -> u8
-        ensures { λ r. ⌜ r ≡ status self ⌝ }
-    {
-        digit(self.spif) * 128 + digit(self.modf) * 64 + digit(self.halta) * 32 + self.cptqp % 16
+        self.registers.spcr2
     }
 
     // Ruled out: the bytes swapped; a flag in another place; the pointer for CPTQP.
     pub fn spcr3_spsr(self) -> u16
         ensures { λ r. ⌜ r ≡ spcr3Spsr self ⌝ }
     {
-        word(self.spcr3, self.status())
+        let spsr = self.spsr;
+        word(self.registers.spcr3, spsr.byte())
     }
 
     // Ruled out: a flag marked that is clear; an older mark forgotten.
     pub fn status_read(mut self) -> Qspi
         ensures { λ r. ⌜ r ≡ statusRead self ⌝ }
     {
-        self.spif_seen = self.spif_seen | self.spif;
-        self.modf_seen = self.modf_seen | self.modf;
-        self.halta_seen = self.halta_seen | self.halta;
+        let spsr = self.spsr;
+        self.spsr = spsr.flags_seen();
         self
     }
 
     fn abandoned(mut self) -> Qspi
-        ensures { λ r. ⌜ r ≡ abandoned self ⌝ }
+        ensures { λ r. ⌜ r ≡ switched true false self ⌝ }
     {
-        self.playing = false;
-        self.delaying = false;
-        self.halted = false;
-        self.left = 0;
-        self.edges = 0;
-        self.selecting = false;
+        let entry = self.entry;
+        self.entry = entry.abandoned();
         self
     }
 
     fn risen(mut self) -> Qspi
         ensures { λ r. ⌜ r ≡ risen self ⌝ }
     {
-        self.working = self.spcr2;
-        self.pointer = (self.spcr2 % 16) as u8;
-        self.playing = false;
-        self.delaying = false;
-        self.halted = false;
-        self.left = 0;
-        self.edges = 0;
-        self.mosi = false;
-        self.selecting = false;
+        let spcr2 = self.registers.spcr2;
+        let newqp = (spcr2 % 16) as u8;
+        self.next.working = spcr2;
+        self.next.pointer = newqp;
+        let entry = self.entry;
+        self.entry = entry.abandoned().silent();
         self
     }
 
@@ -168,7 +176,8 @@ impl Qspi {
     pub fn write_spcr0(mut self, v: u16, upper: bool, lower: bool) -> Qspi
         ensures { λ r. ⌜ r ≡ writeSpcr0 self v upper lower ⌝ }
     {
-        self.spcr0 = merge(self.spcr0, v, upper, lower);
+        let spcr0 = merge(self.registers.spcr0, v, upper, lower);
+        self.registers.spcr0 = spcr0;
         self
     }
 
@@ -176,30 +185,20 @@ impl Qspi {
     pub fn write_spcr1(mut self, v: u16, upper: bool, lower: bool) -> Qspi
         ensures { λ r. ⌜ r ≡ writeSpcr1 self v upper lower ⌝ }
     {
-        let before = spe(self.spcr1);
-        self.spcr1 = merge(self.spcr1, v, upper, lower);
-        self.switched(before, spe(self.spcr1))
+        let before = spe(self.registers.spcr1);
+        let spcr1 = merge(self.registers.spcr1, v, upper, lower);
+        self.registers.spcr1 = spcr1;
+        self.switched(before, spe(spcr1))
     }
 
     // Ruled out: NEWQP rewritten with its own value skipped; the working copy written; a bit stored that doesn't exist.
     pub fn write_spcr2(mut self, v: u16, upper: bool, lower: bool) -> Qspi
         ensures { λ r. ⌜ r ≡ writeSpcr2 self v upper lower ⌝ }
     {
-        self.pending = self.pending | lower;
-        self.spcr2 = spcr2_bits(merge(self.spcr2, v, upper, lower));
-        self
-    }
-
-    // The flags that fall lose their marks.
-    fn flags_fallen(mut self, spif: bool, modf: bool, halta: bool) -> Qspi
-        ensures { λ r. ⌜ r ≡ flagsFallen self spif modf halta ⌝ }
-    {
-        self.spif = self.spif & !spif;
-        self.modf = self.modf & !modf;
-        self.halta = self.halta & !halta;
-        self.spif_seen = self.spif_seen & !spif;
-        self.modf_seen = self.modf_seen & !modf;
-        self.halta_seen = self.halta_seen & !halta;
+        let pending = self.next.pending | lower;
+        let spcr2 = spcr2_bits(merge(self.registers.spcr2, v, upper, lower));
+        self.next.pending = pending;
+        self.registers.spcr2 = spcr2;
         self
     }
 
@@ -207,32 +206,34 @@ impl Qspi {
     pub fn write_spcr3_spsr(mut self, v: u16, upper: bool, lower: bool) -> Qspi
         ensures { λ r. ⌜ r ≡ writeSpcr3Spsr self v upper lower ⌝ }
     {
-        self.spcr3 = choose(upper, upper_byte(v) % 8, self.spcr3);
-        self.flags_fallen(
-            falls(lower, self.spif_seen, v / 128 % 2 == 1),
-            falls(lower, self.modf_seen, v / 64 % 2 == 1),
-            falls(lower, self.halta_seen, v / 32 % 2 == 1),
-        )
+        let spcr3 = choose(upper, upper_byte(v) % 8, self.registers.spcr3);
+        self.registers.spcr3 = spcr3;
+        let spsr = self.spsr;
+        self.spsr = spsr.written(v, lower);
+        self
     }
 
     // Ruled out: SPE refused with MSTR set; a write of the lower byte refused.
     pub fn spcr1_unmodelled(self, v: u16, upper: bool) -> bool
         ensures { λ r. ⌜ r ≡ spcr1Unmodelled self v upper ⌝ }
     {
-        upper & spe(v) & !mstr(self.spcr0)
+        upper & spe(v) & !mstr(self.registers.spcr0)
     }
 
     // Ruled out: the same value refused; a change let through; refused with SPE clear.
     pub fn spcr0_guarded(self, v: u16, upper: bool, lower: bool) -> bool
         ensures { λ r. ⌜ r ≡ spcr0Guarded self v upper lower ⌝ }
     {
-        spe(self.spcr1) & !(merge(self.spcr0, v, upper, lower) == self.spcr0)
+        spe(self.registers.spcr1)
+            & !(merge(self.registers.spcr0, v, upper, lower) == self.registers.spcr0)
     }
 
     // Ruled out: SPE's own change refused; a change of DTL let through.
     pub fn spcr1_guarded(self, v: u16, upper: bool, lower: bool) -> bool
         ensures { λ r. ⌜ r ≡ spcr1Guarded self v upper lower ⌝ }
     {
-        spe(self.spcr1) & !(merge(self.spcr1, v, upper, lower) % 32768 == self.spcr1 % 32768)
+        spe(self.registers.spcr1)
+            & !(merge(self.registers.spcr1, v, upper, lower) % 32768
+                == self.registers.spcr1 % 32768)
     }
 }

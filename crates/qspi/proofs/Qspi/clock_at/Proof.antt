@@ -5,7 +5,7 @@ use Rattle.qspi.proofs.Qspi.clock_at.Tie as tie
 
 returns : tie.Need-returns
 returns c =
-    rw (c .run-clock .ensures, c .before .begun .ensures, c .before .before .ready .ensures)
+    rw (c .run-clock .ensures, c .before .begun-if .ensures, c .before .before .ready .ensures)
     (begun-first (c .before .before .before .before .before .args .miso) (c .before .before .before .before .before .args .self))
 
 pub clock-at-spec : {M : Type 1} → statement M

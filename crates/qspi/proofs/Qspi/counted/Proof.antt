@@ -11,11 +11,11 @@ edge-requires c κs = search needs
 returns : tie.Need-returns
 returns c = rw (c .edge .ensures, c .before .before .if1 .taken)
 
-minus-requires : tie.Need-minus-requires
-minus-requires c κs = search needs
+ticked-requires : tie.Need-ticked-requires
+ticked-requires c κs = search needs
 
 returns-2 : tie.Need-returns-2
-returns-2 c = rw (c .minus .ensures, c .before .if1 .left)
+returns-2 c = rw (c .ticked .ensures, c .before .before .if1 .left)
 
 pub counted-spec : {M : Type 1} → statement M
-counted-spec = tie.close (tie.spec add-edge edge-requires returns minus-requires returns-2)
+counted-spec = tie.close (tie.spec add-edge edge-requires returns ticked-requires returns-2)

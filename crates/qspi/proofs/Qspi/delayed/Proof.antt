@@ -2,20 +2,21 @@ use borrow.Author.Needs.{needs}
 use Rattle.qspi.proofs.Qspi.delayed.Statement.{statement}
 use Rattle.qspi.proofs.Qspi.delayed.Tie as tie
 
-cont-requires : tie.Need-cont-requires
-cont-requires c κs = search needs
-
 halt-requires : tie.Need-halt-requires
 halt-requires c κs = search needs
 
-returns : tie.Need-returns
-returns c = rw (c .before .halt .ensures, c .before .before .if1 .taken, c .before .before .before .before .cont .ensures)
+delay-over-requires : tie.Need-delay-over-requires
+delay-over-requires c κs = search needs
 
-minus-requires : tie.Need-minus-requires
-minus-requires c κs = search needs
+returns : tie.Need-returns
+returns c = rw (c .delay-over .ensures, c .before .before .before .halt .ensures, c .before .before .before .before .if1 .taken)
+
+in-delay-requires : tie.Need-in-delay-requires
+in-delay-requires c κs = search needs
 
 returns-2 : tie.Need-returns-2
-returns-2 c = rw (c .minus .ensures, c .before .if1 .left, c .before .before .before .cont .ensures)
+returns-2 c = rw (c .in-delay .ensures, c .before .if1 .left)
 
 pub delayed-spec : {M : Type 1} → statement M
-delayed-spec = tie.close (tie.spec cont-requires halt-requires returns minus-requires returns-2)
+delayed-spec =
+    tie.close (tie.spec halt-requires delay-over-requires returns in-delay-requires returns-2)

@@ -6,7 +6,7 @@ wrap-to-requires : tie.Need-wrap-to-requires
 wrap-to-requires c κs = search needs
 
 returns : tie.Need-returns
-returns c = rw (c .wrap-to .ensures)
+returns c = rw (c .before .wrap-to .ensures)
 
 pub wrapped-spec : {M : Type 1} → statement M
 wrapped-spec = tie.close (tie.spec wrap-to-requires returns)

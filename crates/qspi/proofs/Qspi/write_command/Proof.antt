@@ -8,12 +8,12 @@ command-word-requires c κs = search needs
 merge-requires : tie.Need-merge-requires
 merge-requires c κs = search needs
 
-commands-set-requires : tie.Need-commands-set-requires
-commands-set-requires c κs = search needs
+commanded-requires : tie.Need-commanded-requires
+commanded-requires c κs = search needs
 
 returns : tie.Need-returns
-returns c = rw (c .commands-set .ensures, c .before .merge .ensures, c .before .before .command-word .ensures)
+returns c = rw (c .commanded .ensures, c .before .before .merge .ensures, c .before .before .before .command-word .ensures)
 
 pub write-command-spec : {M : Type 1} → statement M
 write-command-spec =
-    tie.close (tie.spec command-word-requires merge-requires commands-set-requires returns)
+    tie.close (tie.spec command-word-requires merge-requires commanded-requires returns)

@@ -6,7 +6,7 @@ merge-requires : tie.Need-merge-requires
 merge-requires c κs = search needs
 
 returns : tie.Need-returns
-returns c = rw (c .merge .ensures)
+returns c = rw (c .before .merge .ensures)
 
 pub write-spcr0-spec : {M : Type 1} → statement M
 write-spcr0-spec = tie.close (tie.spec merge-requires returns)

@@ -17,7 +17,7 @@ switched-requires c κs = search needs
 
 returns : tie.Need-returns
 unfolding writeSpcr1
-returns c = rw (c .switched .ensures, c .before .spe2 .ensures, c .before .before .merge .ensures, c .before .before .before .spe .ensures)
+returns c = rw (c .switched .ensures, c .before .spe2 .ensures, c .before .before .before .merge .ensures, c .before .before .before .before .spe .ensures)
 
 pub write-spcr1-spec : {M : Type 1} → statement M
 write-spcr1-spec =
