@@ -125,26 +125,50 @@ struct qsm_sci {
     struct qsm_transmitter transmitter;
 };
 
-struct qsm_qspi {
-    uint16_t spcr1, spcr0, spcr2;
+struct qsm_registers {
+    uint16_t spcr0, spcr1, spcr2;
     uint8_t spcr3;
-    bool spif_seen, modf_seen, halta_seen;
-    bool halta, spif, modf;
+};
+
+struct qsm_spsr_flags {
+    bool spif, modf, halta;
+};
+
+struct qsm_spsr {
+    struct qsm_spsr_flags flags;
+    struct qsm_spsr_flags seen; /* those that a read of SPSR has shown */
     uint8_t cptqp;
+};
+
+struct qsm_ram {
     uint16_t receive[16];
     uint16_t transmit[16];
     uint8_t commands[16];
+};
+
+struct qsm_next {
     uint16_t working; /* working copy of SPCR2 */
     uint8_t pointer;
-    bool pending;  /* NEWQP was written since the last entry began */
-    uint8_t edges; /* of the entry, fallen */
+    bool pending; /* NEWQP was written since the last entry began */
+};
+
+struct qsm_entry {
+    uint16_t word; /* transmit word and command that the entry took */
+    uint8_t command;
+    bool playing, delaying, halted;
     uint16_t left; /* clocks to the next edge, or to the end of the delay */
-    bool playing, halted, delaying;
+    uint8_t edges; /* fallen */
     bool mosi;
     uint16_t collected; /* bits read on MISO */
-    uint16_t shift;     /* transmit word and command of the entry */
-    uint8_t command;
-    bool selecting; /* the chip selects show the command's value */
+    bool selecting;     /* the chip selects show the command's value */
+};
+
+struct qsm_qspi {
+    struct qsm_registers registers;
+    struct qsm_spsr spsr;
+    struct qsm_ram ram;
+    struct qsm_next next;   /* what comes next */
+    struct qsm_entry entry; /* the entry under way */
 };
 
 struct qsm {
@@ -216,19 +240,22 @@ QSM_STRUCT(qsm_transmitter, 2, 6); QSM_AT(qsm_transmitter, preamble, 0, 1); QSM_
 QSM_AT(qsm_transmitter, shift, 2, 2); QSM_AT(qsm_transmitter, scdr, 4, 2);
 QSM_STRUCT(qsm_sci, 2, 34); QSM_AT(qsm_sci, sccr0, 0, 2); QSM_AT(qsm_sci, sccr1, 2, 2); QSM_AT(qsm_sci, prescaler, 4, 2);
 QSM_AT(qsm_sci, status, 6, 4); QSM_AT(qsm_sci, receiver, 10, 18); QSM_AT(qsm_sci, transmitter, 28, 6);
-QSM_STRUCT(qsm_qspi, 2, 112); QSM_AT(qsm_qspi, spcr1, 0, 2); QSM_AT(qsm_qspi, spcr0, 2, 2); QSM_AT(qsm_qspi, spcr2, 4, 2);
-QSM_AT(qsm_qspi, spcr3, 6, 1); QSM_AT(qsm_qspi, spif_seen, 7, 1); QSM_AT(qsm_qspi, modf_seen, 8, 1);
-QSM_AT(qsm_qspi, halta_seen, 9, 1); QSM_AT(qsm_qspi, halta, 10, 1); QSM_AT(qsm_qspi, spif, 11, 1);
-QSM_AT(qsm_qspi, modf, 12, 1); QSM_AT(qsm_qspi, cptqp, 13, 1); QSM_AT(qsm_qspi, receive, 14, 32);
-QSM_AT(qsm_qspi, transmit, 46, 32); QSM_AT(qsm_qspi, commands, 78, 16); QSM_AT(qsm_qspi, working, 94, 2);
-QSM_AT(qsm_qspi, pointer, 96, 1); QSM_AT(qsm_qspi, pending, 97, 1); QSM_AT(qsm_qspi, edges, 98, 1);
-QSM_AT(qsm_qspi, left, 100, 2); QSM_AT(qsm_qspi, playing, 102, 1); QSM_AT(qsm_qspi, halted, 103, 1);
-QSM_AT(qsm_qspi, delaying, 104, 1); QSM_AT(qsm_qspi, mosi, 105, 1); QSM_AT(qsm_qspi, collected, 106, 2);
-QSM_AT(qsm_qspi, shift, 108, 2); QSM_AT(qsm_qspi, command, 110, 1); QSM_AT(qsm_qspi, selecting, 111, 1);
-QSM_STRUCT(qsm, 2, 154); QSM_AT(qsm, sci, 0, 34); QSM_AT(qsm, qspi, 34, 112); QSM_AT(qsm, qsmcr, 146, 2);
-QSM_AT(qsm, qilr, 148, 1); QSM_AT(qsm, qivr, 149, 1); QSM_AT(qsm, portqs, 150, 1); QSM_AT(qsm, pqspar, 151, 1);
-QSM_AT(qsm, ddrqs, 152, 1); QSM_AT(qsm, inputs, 153, 1);
-QSM_STRUCT(qsm_played, 8, 184); QSM_AT(qsm_played, state, 0, 154); QSM_AT(qsm_played, read, 160, 8);
+QSM_STRUCT(qsm_registers, 2, 8); QSM_AT(qsm_registers, spcr0, 0, 2); QSM_AT(qsm_registers, spcr1, 2, 2);
+QSM_AT(qsm_registers, spcr2, 4, 2); QSM_AT(qsm_registers, spcr3, 6, 1);
+QSM_STRUCT(qsm_spsr_flags, 1, 3); QSM_AT(qsm_spsr_flags, spif, 0, 1); QSM_AT(qsm_spsr_flags, modf, 1, 1);
+QSM_AT(qsm_spsr_flags, halta, 2, 1);
+QSM_STRUCT(qsm_spsr, 1, 7); QSM_AT(qsm_spsr, flags, 0, 3); QSM_AT(qsm_spsr, seen, 3, 3); QSM_AT(qsm_spsr, cptqp, 6, 1);
+QSM_STRUCT(qsm_ram, 2, 80); QSM_AT(qsm_ram, receive, 0, 32); QSM_AT(qsm_ram, transmit, 32, 32); QSM_AT(qsm_ram, commands, 64, 16);
+QSM_STRUCT(qsm_next, 2, 4); QSM_AT(qsm_next, working, 0, 2); QSM_AT(qsm_next, pointer, 2, 1); QSM_AT(qsm_next, pending, 3, 1);
+QSM_STRUCT(qsm_entry, 2, 14); QSM_AT(qsm_entry, word, 0, 2); QSM_AT(qsm_entry, command, 2, 1); QSM_AT(qsm_entry, playing, 3, 1);
+QSM_AT(qsm_entry, delaying, 4, 1); QSM_AT(qsm_entry, halted, 5, 1); QSM_AT(qsm_entry, left, 6, 2); QSM_AT(qsm_entry, edges, 8, 1);
+QSM_AT(qsm_entry, mosi, 9, 1); QSM_AT(qsm_entry, collected, 10, 2); QSM_AT(qsm_entry, selecting, 12, 1);
+QSM_STRUCT(qsm_qspi, 2, 114); QSM_AT(qsm_qspi, registers, 0, 8); QSM_AT(qsm_qspi, spsr, 8, 7); QSM_AT(qsm_qspi, ram, 16, 80);
+QSM_AT(qsm_qspi, next, 96, 4); QSM_AT(qsm_qspi, entry, 100, 14);
+QSM_STRUCT(qsm, 2, 156); QSM_AT(qsm, sci, 0, 34); QSM_AT(qsm, qspi, 34, 114); QSM_AT(qsm, qsmcr, 148, 2);
+QSM_AT(qsm, qilr, 150, 1); QSM_AT(qsm, qivr, 151, 1); QSM_AT(qsm, portqs, 152, 1); QSM_AT(qsm, pqspar, 153, 1);
+QSM_AT(qsm, ddrqs, 154, 1); QSM_AT(qsm, inputs, 155, 1);
+QSM_STRUCT(qsm_played, 8, 184); QSM_AT(qsm_played, state, 0, 156); QSM_AT(qsm_played, read, 160, 8);
 QSM_AT(qsm_played, written, 168, 8); QSM_AT(qsm_played, stop, 176, 1);
 #undef QSM_AT
 #undef QSM_STRUCT

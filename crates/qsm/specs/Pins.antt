@@ -3,7 +3,7 @@ use mathlib.Core.Bool.{Bool, cond}
 use Prim.Native.Nat.{ℕ, _-_, _*_, _%_}
 use lib.Bits.{bitAnd, bitOr}
 use Rattle.sci.specs.Serial.{txdDriven, txd}
-use Rattle.qspi.specs.Outputs.{enabled, sck, pcs}
+use Rattle.qspi.specs.Outputs.{enabled, sck, mosi, pcs}
 use Rattle.qsm.specs.declared.state.Module.{Module}
 use Rattle.qsm.specs.declared.pins.Outputs.{Outputs}
 
@@ -12,7 +12,7 @@ abbrev pub outputs : Module → Outputs
 outputs m =
     record {
       spe = enabled (m .qspi);
-      mosi = m .qspi .mosi;
+      mosi = mosi (m .qspi);
       sck = sck (m .qspi);
       pcs = pcs (m .qspi) (m .portqs);
       driving = txdDriven (m .sci);

@@ -1,16 +1,16 @@
 -- Document 01, Register map: the words of the queue half.
 use mathlib.Core.Bool.{Bool, false, cond}
 use Prim.Native.Nat.{ℕ}
-use Rattle.qspi.specs.Registers.{spcr3Spsr, statusRead, writeSpcr0, writeSpcr1, writeSpcr2, writeSpcr3Spsr, spcr0Unmodelled, spcr1Unmodelled, spcr3Unmodelled, spcr0Guarded, spcr1Guarded}
+use Rattle.qspi.specs.Registers.{spcr0Word, spcr1Word, spcr2Word, spcr3Spsr, statusRead, writeSpcr0, writeSpcr1, writeSpcr2, writeSpcr3Spsr, spcr0Unmodelled, spcr1Unmodelled, spcr3Unmodelled, spcr0Guarded, spcr1Guarded}
 use Rattle.qspi.specs.Ram.{receiveWord, transmitWord, commandWord, writeReceive, writeTransmit, writeCommand}
 use Rattle.qspi.specs.declared.Qspi.{Qspi}
 use Rattle.qsm.specs.declared.map.QueueWord.{QueueWord}
 use Rattle.qsm.specs.declared.map.QueueWord.the-variants.{Spcr0, Spcr1, Spcr2, Spcr3Spsr, Receive, Transmit, Command}
 
 unfoldable pub peekQueue : Qspi → QueueWord → ℕ
-peekQueue q Spcr0 = q .spcr0
-peekQueue q Spcr1 = q .spcr1
-peekQueue q Spcr2 = q .spcr2
+peekQueue q Spcr0 = spcr0Word q
+peekQueue q Spcr1 = spcr1Word q
+peekQueue q Spcr2 = spcr2Word q
 peekQueue q Spcr3Spsr = spcr3Spsr q
 peekQueue q (Receive i) = receiveWord q i
 peekQueue q (Transmit i) = transmitWord q i

@@ -97,7 +97,7 @@ fn finish(q: Qspi) -> u32 {
     let mut r = q;
     let mut i: u32 = 0;
     while i < 40000 {
-        if r.spif {
+        if r.spsr.flags.spif {
             return i;
         }
         r = next(r);
@@ -107,8 +107,8 @@ fn finish(q: Qspi) -> u32 {
 }
 
 fn ended(before: Qspi, after: Qspi) {
-    if before.playing & !after.playing {
-        digit(after.cptqp);
+    if before.entry.playing & !after.entry.playing {
+        digit(after.spsr.cptqp);
     }
 }
 

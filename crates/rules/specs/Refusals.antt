@@ -53,7 +53,7 @@ setsUnmodelled m offset v upper lower =
     cond (at 0x00 offset) (upper && not (eqb (v / 2 ^ 13 % 2 ^ 3) 0))
     (cond (at 0x0A offset) ((upper && (bit 14 v || bit 13 v)) || (lower && bit 0 v))
     (cond (at 0x18 offset) (upper && (bit 14 v || from 1 7 (v / 2 ^ 10 % 2 ^ 4)))
-    (cond (at 0x1A offset) ((upper && bit 15 v) && not (bit 15 (m .qspi .spcr0)))
+    (cond (at 0x1A offset) ((upper && bit 15 v) && not (bit 15 (m .qspi .registers .spcr0)))
     (cond (at 0x1E offset) (upper && bit 10 v) false))))
 
 -- A field differs between a word and what a write of its bytes makes of it.
@@ -65,7 +65,7 @@ abbrev pub serialOn : Sci → Bool
 serialOn s = bit 3 (s .sccr1) || bit 2 (s .sccr1) || runs (s .transmitter)
 
 abbrev pub queueOn : Qspi → Bool
-queueOn q = bit 15 (q .spcr1)
+queueOn q = bit 15 (q .registers .spcr1)
 
 -- A word written changes SCCR0 (SCBR, 12:0), or ILT, PT, PE, M, WAKE (12:8), while the serial half is on; SPCR0, or DSCKL and DTL
 -- (14:0), while the queue half is on.
@@ -73,8 +73,8 @@ abbrev pub changesGuarded : Module → ℕ → ℕ → Bool → Bool → Bool
 changesGuarded m offset v upper lower =
     cond (at 0x08 offset) (serialOn (m .sci) && changes (λ w. w % 2 ^ 13) (m .sci .sccr0) v upper lower)
     (cond (at 0x0A offset) (serialOn (m .sci) && changes (λ w. w / 2 ^ 8 % 2 ^ 5) (m .sci .sccr1) v upper lower)
-    (cond (at 0x18 offset) (queueOn (m .qspi) && changes (λ w. w) (m .qspi .spcr0) v upper lower)
-    (cond (at 0x1A offset) (queueOn (m .qspi) && changes (λ w. w % 2 ^ 15) (m .qspi .spcr1) v upper lower) false)))
+    (cond (at 0x18 offset) (queueOn (m .qspi) && changes (λ w. w) (m .qspi .registers .spcr0) v upper lower)
+    (cond (at 0x1A offset) (queueOn (m .qspi) && changes (λ w. w % 2 ^ 15) (m .qspi .registers .spcr1) v upper lower) false)))
 
 -- The word that a byte or a word writes: a byte stands in both bytes, and one of them is touched.
 abbrev pub wordWritten : ℕ → ℕ → ℕ

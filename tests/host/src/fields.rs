@@ -12,7 +12,8 @@ fn read(module: &Module, width: u8, offset: u16) -> u32 {
 pub fn check(m: &Module) -> Result<(), Difference> {
     let flag = |bit: bool, place: u32| u32::from(bit) << place;
     let rwu = flag(m.sci.receiver.asleep, 1);
-    let spsr = flag(m.qspi.spif, 7) | flag(m.qspi.modf, 6) | flag(m.qspi.halta, 5);
+    let flags = m.qspi.spsr.flags;
+    let spsr = flag(flags.spif, 7) | flag(flags.modf, 6) | flag(flags.halta, 5);
     let mut fields = vec![
         ("qsmcr", 2, 0x00, m.qsmcr.into()),
         ("qilr", 1, 0x04, m.qilr.into()),
@@ -23,16 +24,16 @@ pub fn check(m: &Module) -> Result<(), Difference> {
         ("scdr", 2, 0x0E, m.sci.receiver.scdr.into()),
         ("pqspar", 1, 0x16, m.pqspar.into()),
         ("ddrqs", 1, 0x17, m.ddrqs.into()),
-        ("spcr0", 2, 0x18, m.qspi.spcr0.into()),
-        ("spcr1", 2, 0x1A, m.qspi.spcr1.into()),
-        ("spcr2", 2, 0x1C, m.qspi.spcr2.into()),
-        ("spcr3", 1, 0x1E, m.qspi.spcr3.into()),
-        ("spsr", 1, 0x1F, spsr | u32::from(m.qspi.cptqp)),
+        ("spcr0", 2, 0x18, m.qspi.registers.spcr0.into()),
+        ("spcr1", 2, 0x1A, m.qspi.registers.spcr1.into()),
+        ("spcr2", 2, 0x1C, m.qspi.registers.spcr2.into()),
+        ("spcr3", 1, 0x1E, m.qspi.registers.spcr3.into()),
+        ("spsr", 1, 0x1F, spsr | u32::from(m.qspi.spsr.cptqp)),
     ];
     for (i, at) in (0..16).enumerate() {
-        fields.push(("receive", 2, 0x100 + 2 * at, m.qspi.receive[i].into()));
-        fields.push(("transmit", 2, 0x120 + 2 * at, m.qspi.transmit[i].into()));
-        fields.push(("commands", 1, 0x140 + at, m.qspi.commands[i].into()));
+        fields.push(("receive", 2, 0x100 + 2 * at, m.qspi.ram.receive[i].into()));
+        fields.push(("transmit", 2, 0x120 + 2 * at, m.qspi.ram.transmit[i].into()));
+        fields.push(("commands", 1, 0x140 + at, m.qspi.ram.commands[i].into()));
     }
     for (name, width, offset, value) in fields {
         same(

@@ -20,13 +20,17 @@ layout!(Receiver, 2, 18;
 );
 layout!(Transmitter, 2, 6; preamble 0, left 1, shift 2, scdr 4);
 layout!(Sci, 2, 34; sccr0 0, sccr1 2, prescaler 4, status 6, receiver 10, transmitter 28);
-layout!(Qspi, 2, 112;
-    spcr1 0, spcr0 2, spcr2 4, spcr3 6, spif_seen 7, modf_seen 8, halta_seen 9, halta 10, spif 11,
-    modf 12, cptqp 13, receive 14, transmit 46, commands 78, working 94, pointer 96, pending 97,
-    edges 98, left 100, playing 102, halted 103, delaying 104, mosi 105, collected 106, shift 108,
-    command 110, selecting 111,
+layout!(Registers, 2, 8; spcr0 0, spcr1 2, spcr2 4, spcr3 6);
+layout!(SpsrFlags, 1, 3; spif 0, modf 1, halta 2);
+layout!(Spsr, 1, 7; flags 0, seen 3, cptqp 6);
+layout!(Ram, 2, 80; receive 0, transmit 32, commands 64);
+layout!(Next, 2, 4; working 0, pointer 2, pending 3);
+layout!(Entry, 2, 14;
+    word 0, command 2, playing 3, delaying 4, halted 5, left 6, edges 8, mosi 9, collected 10,
+    selecting 12,
 );
-layout!(Module, 2, 154;
-    sci 0, qspi 34, qsmcr 146, qilr 148, qivr 149, portqs 150, pqspar 151, ddrqs 152, inputs 153,
+layout!(Qspi, 2, 114; registers 0, spsr 8, ram 16, next 96, entry 100);
+layout!(Module, 2, 156;
+    sci 0, qspi 34, qsmcr 148, qilr 150, qivr 151, portqs 152, pqspar 153, ddrqs 154, inputs 155,
 );
 layout!(Played, 8, 184; state 0, read 160, written 168, stop 176);

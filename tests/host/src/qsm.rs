@@ -65,34 +65,56 @@ c_struct!(Sci {
     transmitter: Transmitter,
 });
 
-c_struct!(Qspi {
-    spcr1: u16,
+c_struct!(Registers {
     spcr0: u16,
+    spcr1: u16,
     spcr2: u16,
     spcr3: u8,
-    spif_seen: bool,
-    modf_seen: bool,
-    halta_seen: bool,
-    halta: bool,
+});
+
+c_struct!(SpsrFlags {
     spif: bool,
     modf: bool,
+    halta: bool,
+});
+
+c_struct!(Spsr {
+    flags: SpsrFlags,
+    seen: SpsrFlags,
     cptqp: u8,
+});
+
+c_struct!(Ram {
     receive: [u16; 16],
     transmit: [u16; 16],
     commands: [u8; 16],
+});
+
+c_struct!(Next {
     working: u16,
     pointer: u8,
     pending: bool,
-    edges: u8,
-    left: u16,
+});
+
+c_struct!(Entry {
+    word: u16,
+    command: u8,
     playing: bool,
-    halted: bool,
     delaying: bool,
+    halted: bool,
+    left: u16,
+    edges: u8,
     mosi: bool,
     collected: u16,
-    shift: u16,
-    command: u8,
     selecting: bool,
+});
+
+c_struct!(Qspi {
+    registers: Registers,
+    spsr: Spsr,
+    ram: Ram,
+    next: Next,
+    entry: Entry,
 });
 
 c_struct!(Module {
