@@ -76,13 +76,13 @@ module _ (m : Module) where
   of-idle : asks m IDLE ≡ has (m .sci .status) flags.IDLE && ILIE (m .sci .sccr1)
   of-idle = and-same (scsr-flag 4 m refl) (controls m .3)
 
-  of-spif : asks m SPIF ≡ m .qspi .spif && spifie (m .qspi .working)
+  of-spif : asks m SPIF ≡ m .qspi .spsr .flags .spif && spifie (m .qspi .next .working)
   of-spif = and-same (spif-read m) refl
 
-  of-modf : asks m MODF ≡ m .qspi .modf && hmie (m .qspi .spcr3)
+  of-modf : asks m MODF ≡ m .qspi .spsr .flags .modf && hmie (m .qspi .registers .spcr3)
   of-modf = and-same (modf-read m) (hmie-read m)
 
-  of-halta : asks m HALTA ≡ m .qspi .halta && hmie (m .qspi .spcr3)
+  of-halta : asks m HALTA ≡ m .qspi .spsr .flags .halta && hmie (m .qspi .registers .spcr3)
   of-halta = and-same (halta-read m) (hmie-read m)
 
   of-serial : asks m TDRE || asks m TC || (asks m RDRF || asks m OR) || asks m IDLE ≡ asking m SCI
@@ -94,7 +94,7 @@ module _ (m : Module) where
   of-queue : asks m SPIF || (asks m MODF || asks m HALTA) ≡ asking m QSPI
   of-queue =
       same-or of-spif
-      (same-or of-modf of-halta ∙ shared (m .qspi .modf) (m .qspi .halta) (hmie (m .qspi .spcr3)))
+      (same-or of-modf of-halta ∙ shared (m .qspi .spsr .flags .modf) (m .qspi .spsr .flags .halta) (hmie (m .qspi .registers .spcr3)))
 
   -- No enable.
   never : (f : Flag) → enabled m f ≡ false → asks m f ≡ true → asking m (half f) ≡ true

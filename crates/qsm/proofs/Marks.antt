@@ -13,8 +13,9 @@ use Rattle.sci.specs.declared.flags.Flags.{Flags}
 use Rattle.sci.specs.declared.status.Status.{Status}
 use Rattle.sci.proofs.Membership.{and-left, bit-less}
 use Rattle.qspi.specs.Fields.{spe}
-use Rattle.qspi.specs.State.{withSpcr1}
-use Rattle.qspi.specs.Registers.{switched, writeSpcr1, falls}
+use Rattle.qspi.specs.Parts.{withRegisters}
+use Rattle.qspi.specs.Registers.{withSpcr1, switched, writeSpcr1}
+use Rattle.qspi.specs.Spsr.{falls}
 use Rattle.qspi.specs.declared.Qspi.{Qspi}
 use Rattle.qsm.specs.Serial.{putSerial}
 use Rattle.qsm.specs.Queue.{putQueue}
@@ -83,7 +84,8 @@ queue-seen : (q : Qspi) (w : QueueWord) (v : ℕ) (upper lower : Bool) → NoMor
 unfolding putQueue writeSpcr1
 queue-seen q Spcr0 v upper lower = none-more q
 queue-seen q Spcr1 v upper lower =
-    switched-seen (spe (q .spcr1)) (spe (merge (q .spcr1) v upper lower)) (withSpcr1 q (merge (q .spcr1) v upper lower))
+    switched-seen (spe (q .registers .spcr1)) (spe (merge (q .registers .spcr1) v upper lower))
+    (withRegisters q (withSpcr1 (q .registers) (merge (q .registers .spcr1) v upper lower)))
 queue-seen q Spcr2 v upper lower = none-more q
 queue-seen q Spcr3Spsr v upper lower = (
   and-left (spifSeen q) (not (falls lower (spifSeen q) (bit 7 v))),

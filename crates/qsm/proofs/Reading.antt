@@ -27,7 +27,7 @@ pub sccr1-read : (m : Module) → readAt m 2 0x0A ≡ sccr1Word (m .sci)
 unfolding does reads decideRead admitted inMap decode readValue fetched fetch iterate peek peekSerial
 sccr1-read m = zero-add _
 
-pub spcr1-read : (m : Module) → readAt m 2 0x1A ≡ m .qspi .spcr1
+pub spcr1-read : (m : Module) → readAt m 2 0x1A ≡ m .qspi .registers .spcr1
 unfolding does reads decideRead admitted inMap decode readValue fetched fetch iterate peek peekQueue
 spcr1-read m = zero-add _
 

@@ -124,13 +124,13 @@ marker NF = scsr 2 refl
 marker FE = scsr 1 refl
 marker PF = scsr 0 refl
 marker SPIF =
-    spsr spifSeen (λ q. q .spif) (λ q. refl) (λ q. refl) (λ m. isSet m SPIF) spif-read
+    spsr spifSeen (λ q. q .spsr .flags .spif) (λ q. refl) (λ q. refl) (λ m. isSet m SPIF) spif-read
     (λ m p v upper lower. put-spsr m p v upper lower .0)
 marker MODF =
-    spsr modfSeen (λ q. q .modf) (λ q. refl) (λ q. refl) (λ m. isSet m MODF) modf-read
+    spsr modfSeen (λ q. q .spsr .flags .modf) (λ q. refl) (λ q. refl) (λ m. isSet m MODF) modf-read
     (λ m p v upper lower. put-spsr m p v upper lower .1)
 marker HALTA =
-    spsr haltaSeen (λ q. q .halta) (λ q. refl) (λ q. refl) (λ m. isSet m HALTA) halta-read
+    spsr haltaSeen (λ q. q .spsr .flags .halta) (λ q. refl) (λ q. refl) (λ m. isSet m HALTA) halta-read
     (λ m p v upper lower. put-spsr m p v upper lower .2)
 
 -- ---- the laws

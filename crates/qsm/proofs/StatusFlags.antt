@@ -69,22 +69,22 @@ digit-small false = omega arith
 
 module _ (m : Module) where
   of-word :
-      (spcr3Spsr (m .qspi) % 256 / 128 % 2 ≡ digit (m .qspi .spif))
-      × (spcr3Spsr (m .qspi) % 256 / 64 % 2 ≡ digit (m .qspi .modf))
-      × (spcr3Spsr (m .qspi) % 256 / 32 % 2 ≡ digit (m .qspi .halta))
-      × (spcr3Spsr (m .qspi) / 256 % 256 / 2 % 2 ≡ m .qspi .spcr3 / 2 % 2)
+      (spcr3Spsr (m .qspi) % 256 / 128 % 2 ≡ digit (m .qspi .spsr .flags .spif))
+      × (spcr3Spsr (m .qspi) % 256 / 64 % 2 ≡ digit (m .qspi .spsr .flags .modf))
+      × (spcr3Spsr (m .qspi) % 256 / 32 % 2 ≡ digit (m .qspi .spsr .flags .halta))
+      × (spcr3Spsr (m .qspi) / 256 % 256 / 2 % 2 ≡ m .qspi .registers .spcr3 / 2 % 2)
   of-word =
-      word-digits (m .qspi .spcr3) (digit (m .qspi .spif)) (digit (m .qspi .modf)) (digit (m .qspi .halta)) (m .qspi .cptqp)
-      (digit-small (m .qspi .spif)) (digit-small (m .qspi .modf)) (digit-small (m .qspi .halta))
+      word-digits (m .qspi .registers .spcr3) (digit (m .qspi .spsr .flags .spif)) (digit (m .qspi .spsr .flags .modf)) (digit (m .qspi .spsr .flags .halta)) (m .qspi .spsr .cptqp)
+      (digit-small (m .qspi .spsr .flags .spif)) (digit-small (m .qspi .spsr .flags .modf)) (digit-small (m .qspi .spsr .flags .halta))
 
-  pub spif-read : bit 7 (readAt m 1 0x1F) ≡ m .qspi .spif
-  spif-read = ap (bit 7) (spsr-read m) ∙ same-digit _ _ (of-word .0) ∙ digit-one (m .qspi .spif)
+  pub spif-read : bit 7 (readAt m 1 0x1F) ≡ m .qspi .spsr .flags .spif
+  spif-read = ap (bit 7) (spsr-read m) ∙ same-digit _ _ (of-word .0) ∙ digit-one (m .qspi .spsr .flags .spif)
 
-  pub modf-read : bit 6 (readAt m 1 0x1F) ≡ m .qspi .modf
-  modf-read = ap (bit 6) (spsr-read m) ∙ same-digit _ _ (of-word .1) ∙ digit-one (m .qspi .modf)
+  pub modf-read : bit 6 (readAt m 1 0x1F) ≡ m .qspi .spsr .flags .modf
+  modf-read = ap (bit 6) (spsr-read m) ∙ same-digit _ _ (of-word .1) ∙ digit-one (m .qspi .spsr .flags .modf)
 
-  pub halta-read : bit 5 (readAt m 1 0x1F) ≡ m .qspi .halta
-  halta-read = ap (bit 5) (spsr-read m) ∙ same-digit _ _ (of-word .2) ∙ digit-one (m .qspi .halta)
+  pub halta-read : bit 5 (readAt m 1 0x1F) ≡ m .qspi .spsr .flags .halta
+  halta-read = ap (bit 5) (spsr-read m) ∙ same-digit _ _ (of-word .2) ∙ digit-one (m .qspi .spsr .flags .halta)
 
-  pub hmie-read : bit 1 (readAt m 1 0x1E) ≡ bit 1 (m .qspi .spcr3)
+  pub hmie-read : bit 1 (readAt m 1 0x1E) ≡ bit 1 (m .qspi .registers .spcr3)
   hmie-read = ap (bit 1) (spcr3-read m) ∙ same-digit _ _ (of-word .3)

@@ -27,7 +27,7 @@ transmitting m = bit 3 (readAt m 2 0x0A) || runs (m .sci .transmitter)
 
 -- What the queue puts on MOSI.
 abbrev pub mosi : Qspi → Bool
-mosi q = q .mosi
+mosi q = q .entry .mosi
 
 -- A pin is assigned to the queue.
 abbrev pub assigned : Module → ℕ → Bool

@@ -19,7 +19,7 @@ enabled m OR = bit 5 (readAt m 2 0x0A)
 enabled m NF = false
 enabled m FE = false
 enabled m PF = false
-enabled m SPIF = bit 15 (m .qspi .working)
+enabled m SPIF = bit 15 (m .qspi .next .working)
 enabled m MODF = bit 1 (readAt m 1 0x1E)
 enabled m HALTA = bit 1 (readAt m 1 0x1E)
 

@@ -15,13 +15,13 @@ use Rattle.qsm.specs.declared.event.Event.the-variants as event
 
 -- The marks of SPSR's flags.
 abbrev pub spifSeen : Qspi → Bool
-spifSeen q = q .«spif_seen»
+spifSeen q = q .spsr .seen .spif
 
 abbrev pub modfSeen : Qspi → Bool
-modfSeen q = q .«modf_seen»
+modfSeen q = q .spsr .seen .modf
 
 abbrev pub haltaSeen : Qspi → Bool
-haltaSeen q = q .«halta_seen»
+haltaSeen q = q .spsr .seen .halta
 
 -- A flag of SCSR is marked at its own bit.
 abbrev pub inScsr : Module → ℕ → Bool
