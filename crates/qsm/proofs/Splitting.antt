@@ -5,11 +5,11 @@ use Prim.Native.Nat.{ℕ, zero, suc, _+_}
 use native.Mathlib.Omega.{arith}
 use Rattle.steps.specs.Iterate.{iterate}
 use Rattle.steps.proofs.Iterate.{iterate-add}
-use Rattle.qsm.specs.Event.{clockModule, clocks, held, holds, answered, does, step}
-use Rattle.qsm.specs.Event as events
+use Rattle.qsm.specs.Event.{done, answered, clockModule, clocks, held, holds, does, step}
 use Rattle.qsm.specs.Holds.{Splits, OneByOne, NoClocks, HeldInParts}
 use Rattle.qsm.specs.declared.state.Module.{Module}
 use Rattle.qsm.specs.declared.event.Event.the-variants.{Hold}
+use Rattle.qsm.specs.declared.event.Stepped.{Stepped}
 
 -- A clock leaves the levels, so the same levels again change nothing.
 levels-stay : (n : ℕ) (rxd : Bool) (m : Module) → iterate n (clockModule rxd) m .inputs ≡ m .inputs
@@ -24,25 +24,16 @@ held-on : (n : ℕ) (rxd : Bool) (m : Module) (pins : ℕ) →
     held (iterate n (clockModule rxd) (held m pins)) pins ≡ iterate n (clockModule rxd) (held m pins)
 held-on n rxd m pins = held-same (iterate n (clockModule rxd) (held m pins)) pins (levels-stay n rxd (held m pins))
 
--- What a hold leaves.
-left : (m : Module) (pins : ℕ) (rxd : Bool) (n : ℕ) → step m (Hold pins rxd n) .state ≡ iterate n (clockModule rxd) (held m pins)
-unfolding step does holds clocks
-left m pins rxd n = refl
-
--- The same clocks at the same levels give the same step.
-step-same : (m m′ : Module) (pins pins′ : ℕ) (rxd rxd′ : Bool) (n n′ : ℕ) →
-    iterate n (clockModule rxd) (held m pins) ≡ iterate n′ (clockModule rxd′) (held m′ pins′) →
-    step m (Hold pins rxd n) ≡ step m′ (Hold pins′ rxd′ n′)
-unfolding step does holds clocks
-step-same m m′ pins pins′ rxd rxd′ n n′ e = ap (λ (s : Module). answered (events.done s 0 0)) e
+-- What an event with no refusal and no value gives, by the module that it leaves.
+abbrev gives : Module → Stepped
+gives s = answered (done s 0 0)
 
 pub splits : Splits
+unfolding step does holds clocks
 splits m pins rxd a b =
-    let first = step m (Hold pins rxd a) .state in
     let sum : b + a ≡ a + b = omega arith in
-    step-same first m pins pins rxd rxd b (a + b)
-    (ap (λ (s : Module). iterate b (clockModule rxd) (held s pins)) (left m pins rxd a)
-    ∙ ap (iterate b (clockModule rxd)) (held-on a rxd m pins)
+    ap gives
+    (ap (iterate b (clockModule rxd)) (held-on a rxd m pins)
     ∙ sym (iterate-add b a (clockModule rxd) (held m pins))
     ∙ ap (λ (k : ℕ). iterate k (clockModule rxd) (held m pins)) sum)
 
@@ -56,13 +47,8 @@ one-by-one m pins rxd (suc n) =
     ∙ ap (λ (s : Module). step s (Hold pins rxd 1) .state) (one-by-one m pins rxd n)
 
 pub no-clocks : NoClocks
-unfolding iterate
-no-clocks = (
-  (λ m rxd. left m (m .inputs) rxd 0),
-  (λ m pins later rxd now n.
-      step-same (step m (Hold pins rxd 0) .state) m later later now now n n
-      (ap (λ (s : Module). iterate n (clockModule now) (held s later)) (left m pins rxd 0))),
-)
+unfolding step does holds clocks iterate
+no-clocks = ((λ m rxd. refl), (λ m pins later rxd now n. refl))
 
 pub held-in-parts : HeldInParts
 held-in-parts = record { splits = splits; one-by-one = one-by-one; no-clocks = no-clocks }
