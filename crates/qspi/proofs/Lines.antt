@@ -4,11 +4,12 @@ use mathlib.Core.Bool.{Bool, true, false, cond, _||_}
 use Prim.Native.Nat.{ℕ, zero, suc, _/_, _%_}
 use native.Mathlib.Nat.{add-zero}
 use native.Mathlib.Omega.{arith}
-use borrow.Author.Tests.{ne-eqb, eqb-false}
+use lib.Dec.{eqb}
+use borrow.Author.Tests.{ne-eqb}
 use Rattle.steps.specs.Bits.{merge}
 use Rattle.qspi.specs.Fields.{spe, cont, pcsField}
 use Rattle.qspi.specs.Registers.{withSpcr1, switched, writeSpcr1}
-use Rattle.qspi.specs.Queue.{begun, clock, queueClock, faulted}
+use Rattle.qspi.specs.Queue.{begun, clock, faulted}
 use Rattle.qspi.specs.Outputs.{sck, pcs}
 use Rattle.qspi.specs.Parts.{withRegisters}
 use Rattle.qspi.specs.Run.{run, lastClock}
@@ -16,6 +17,7 @@ use Rattle.qspi.specs.Laws.{SckTurns, SckRests, PcsShow, PcsDelay, Aband
 use Rattle.qspi.proofs.Completed.{completed-keeps}
 use Rattle.qspi.proofs.Edges.{edges-fall, last-edge}
 use Rattle.qspi.proofs.Delay.{field-on, delay-runs, no-spe}
+use Rattle.qspi.proofs.Quiet.{clock-faults}
 
 pub sck-turns : SckTurns
 sck-turns q pins s calm j d less within later = ap sck (edges-fall q pins s calm j d less within later)
@@ -39,24 +41,27 @@ pcs-delay q pins s calm goes (suc d) portqs less =
     (sym (ne-eqb (suc d) 0 (λ e. omega arith)))
 
 pub fault-abandons : FaultAbandons
-unfolding clock queueClock
 fault-abandons q pins h =
-    let there : clock q pins ≡ faulted true q = rw (h, no-spe (q .registers .spcr1)) in (
+    let there : clock q pins ≡ faulted true q = clock-faults q pins h in (
       subst (Abandoned q) (sym there)
           (record { off = no-spe (q .registers .spcr1); not-playing = refl; receive = refl; cptqp = refl; spif = refl }),
       ap (λ r. r .spsr .flags .modf) there,
     )
 
-cleared : (old v : ℕ) (lower : Bool) → spe v ≡ false → spe (merge old v true lower) ≡ false
-cleared old v true h =
-    ne-eqb (merge old v true true / 32768 % 2) 1 (λ e. eqb-false (v / 32768 % 2) 1 h (omega arith))
-cleared old v false h =
-    ne-eqb (merge old v true false / 32768 % 2) 1 (λ e. eqb-false (v / 32768 % 2) 1 h (omega arith))
+-- A write of the upper byte puts its bit 15 at SPE.
+pub spe-written : (old v : ℕ) (lower : Bool) → spe (merge old v true lower) ≡ spe v
+spe-written old v true =
+    let same : merge old v true true / 32768 % 2 ≡ v / 32768 % 2 = omega arith in
+    ap (λ n. eqb n 1) same
+spe-written old v false =
+    let same : merge old v true false / 32768 % 2 ≡ v / 32768 % 2 = omega arith in
+    ap (λ n. eqb n 1) same
 
 pub write-abandons : WriteAbandons
 unfolding writeSpcr1
 write-abandons q v lower on off =
-    let gone : spe (merge (q .registers .spcr1) v true lower) ≡ false = cleared (q .registers .spcr1) v lower off in
+    let gone : spe (merge (q .registers .spcr1) v true lower) ≡ false =
+    spe-written (q .registers .spcr1) v lower ∙ off in
     let there : writeSpcr1 q v true lower ≡ switched true false (withRegisters q (withSpcr1 (q .registers) (merge (q .registers .spcr1) v true lower))) =
     rw (on, gone) in
     subst (Abandoned q) (sym there)

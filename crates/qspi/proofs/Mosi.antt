@@ -49,7 +49,7 @@ module _ (n w : ℕ) (m : Bool) where
   unfolding mosiAfter
   odd-changes j h k = rw (eq-eqb (j % 2) 1 h, lt-ltb (j / 2) n k)
 
-  even-holds : (j : ℕ) → j % 2 ≡ 0 → mosiAfter true n w j m ≡ m
+  pub even-holds : (j : ℕ) → j % 2 ≡ 0 → mosiAfter true n w j m ≡ m
   unfolding mosiAfter
   even-holds j h = rw (ne-eqb (j % 2) 1 (omega arith))
 

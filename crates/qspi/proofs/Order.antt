@@ -126,7 +126,7 @@ last-of-queue q pins s calm clear once =
       last = word-stored r later (a .starts) calm-later .1 ∙ here;
     })
 
-or-true : (b : Bool) → b || true ≡ true
+pub or-true : (b : Bool) → b || true ≡ true
 or-true true = refl
 or-true false = refl
 

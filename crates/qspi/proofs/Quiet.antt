@@ -8,7 +8,7 @@ use borrow.Author.Tests.{le-leb, lt-leb, lt-ltb, ltb-true, leb-true, leb-false}
 use Rattle.steps.specs.Iterate.{iterate}
 use Rattle.steps.proofs.Iterate.{iterate-add}
 use Rattle.qspi.specs.Fields.{spe, cont, bitsOf}
-use Rattle.qspi.specs.Queue.{clock, queueClock, playClock, delayClock, startClock, ready, misoOf, faultNow, edge}
+use Rattle.qspi.specs.Queue.{clock, queueClock, playClock, delayClock, startClock, begun, ready, misoOf, faultNow, faulted, edge}
 use Rattle.qspi.specs.Entry.{edgeFallen, ticked, inDelay}
 use Rattle.qspi.specs.Quiet.{quiet, skipped, skippedIf, plays, untilEdge, edgeWithin}
 use Rattle.qspi.specs.Parts.{withEntry}
@@ -16,25 +16,35 @@ use Rattle.qspi.specs.declared.Qspi.{Qspi}
 use Rattle.qspi.specs.declared.Pins.{Pins}
 use Rattle.qspi.specs.declared.entry.Entry.{Entry}
 use Rattle.qspi.proofs.Mosi.{by-test}
+use Rattle.qspi.proofs.Delay.{no-spe}
 
 -- What one clock is, by where the queue stands.
 module _ (q : Qspi) (pins : Pins) where
-  clock-off : spe (q .registers .spcr1) ≡ false → clock q pins ≡ q
+  pub clock-faults : faultNow q pins ≡ true → clock q pins ≡ faulted true q
+  unfolding clock queueClock
+  clock-faults due = rw (due, no-spe (q .registers .spcr1))
+
+  pub clock-off : spe (q .registers .spcr1) ≡ false → clock q pins ≡ q
   unfolding clock queueClock
   clock-off off =
       let safe : faultNow q pins ≡ false = rw off in
       rw (safe, off)
 
   module _ (on : spe (q .registers .spcr1) ≡ true) (safe : faultNow q pins ≡ false) where
-    clock-playing : q .entry .playing ≡ true → clock q pins ≡ playClock (misoOf pins) q
+    pub clock-playing : q .entry .playing ≡ true → clock q pins ≡ playClock (misoOf pins) q
     unfolding clock queueClock
     clock-playing p = rw (safe, on, p)
 
-    clock-delaying : q .entry .playing ≡ false → q .entry .delaying ≡ true → clock q pins ≡ delayClock q
+    pub clock-delaying : q .entry .playing ≡ false → q .entry .delaying ≡ true → clock q pins ≡ delayClock q
     unfolding clock queueClock
     clock-delaying p d = rw (safe, on, p, d)
 
-    clock-waiting : q .entry .playing ≡ false → q .entry .delaying ≡ false → ready q ≡ false → clock q pins ≡ q
+    pub clock-starts : q .entry .playing ≡ false → q .entry .delaying ≡ false → ready q ≡ true →
+        clock q pins ≡ playClock (misoOf pins) (begun q)
+    unfolding clock queueClock startClock
+    clock-starts p d r = rw (safe, on, p, d, r)
+
+    pub clock-waiting : q .entry .playing ≡ false → q .entry .delaying ≡ false → ready q ≡ false → clock q pins ≡ q
     unfolding clock queueClock startClock
     clock-waiting p d r = rw (safe, on, p, d, r)
 

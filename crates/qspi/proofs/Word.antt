@@ -20,7 +20,7 @@ use Rattle.qspi.proofs.Completed.{completed-keeps}
 use Rattle.qspi.proofs.Mosi.{by-test, by-parity}
 use Rattle.qspi.proofs.Edges.{last-edge}
 
-digit-small : (b : Bool) → digit b ≤ 1
+pub digit-small : (b : Bool) → digit b ≤ 1
 digit-small true = omega arith
 digit-small false = omega arith
 

@@ -9,5 +9,7 @@ pub mod Quiet
 pub mod Outputs
 pub mod Run
 pub mod Laws
+pub mod Clauses
+pub mod FlagLaws
 pub mod Marked
 pub mod Shown

@@ -12,10 +12,10 @@ use Rattle.qspi.specs.declared.Qspi.{Qspi}
 use Rattle.qspi.specs.declared.registers.Registers.{Registers}
 use Rattle.qspi.specs.declared.spsr.Flags.{Flags}
 
--- SPCR0 0104, SPCR1 0404, all else 0; nothing seen.
 abbrev noFlags : Flags
 noFlags = record { spif = false; modf = false; halta = false }
 
+-- SPCR0 0104, SPCR1 0404, all else 0; nothing seen.
 unfoldable pub reset : Qspi
 reset =
     record {
