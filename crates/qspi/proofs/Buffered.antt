@@ -3,14 +3,14 @@ use mathlib.Core.Path.{_≡_, refl, sym, ap, subst, _∙_}
 use mathlib.Core.Bool.{Bool, true, false, cond, _||_}
 use Prim.Native.Nat.{ℕ, zero, suc, _+_, _-_, _*_, _%_, _<_}
 use native.Mathlib.Omega.{arith}
-use lib.Dec.{eqb, leb}
+use lib.Dec.{leb}
 use borrow.Author.Tests.{leb-true, leb-false}
 use Rattle.steps.specs.Bits.{merge, upperByte}
-use Rattle.qspi.specs.Fields.{spe, wren, endqp, newqp, bitsOf}
+use Rattle.qspi.specs.Fields.{spe, newqp, bitsOf}
 use Rattle.qspi.specs.Parts.{withRegisters, withNext, withEntry}
 use Rattle.qspi.specs.Registers.{withSpcr2, spcr2Bits, writeSpcr2}
 use Rattle.qspi.specs.Entry.{edgeFallen}
-use Rattle.qspi.specs.Queue.{clock, queueClock, clockIf, clockAt, startClock, delayClock, delayed, playClock, counted, edge, judged, completed, followed, stored, begun, entryAt, faulted, faultNow, misoOf, ready}
+use Rattle.qspi.specs.Queue.{clock, queueClock, clockIf, clockAt, startClock, delayClock, delayed, playClock, counted, edge, judged, completed, isLast, wraps, followed, stored, begun, entryAt, faulted, faultNow, misoOf, ready}
 use Rattle.qspi.specs.Outputs.{asks}
 use Rattle.qspi.specs.Run.{run, preIn, spbrIn, edgeClock, during}
 use Rattle.qspi.specs.Laws.{Starting}
@@ -39,7 +39,7 @@ module _ (w : ℕ) (p : Bool) where
   judged-same : (b : Bool) (q : Qspi) → judged b (holding w p q) ≡ holding w p (judged b q)
   unfolding completed
   judged-same true q =
-      followed-same (eqb (q .next .pointer % 16) (endqp (q .next .working))) (wren (q .next .working)) (stored q)
+      followed-same (isLast q) (wraps q) (stored q)
   judged-same false q = refl
 
   counted-same : (b miso : Bool) (q : Qspi) → counted b miso (holding w p q) ≡ holding w p (counted b miso q)

@@ -2,13 +2,13 @@
 use mathlib.Core.Path.{_≡_, refl, sym, subst}
 use mathlib.Core.Bool.{Bool, true, false}
 use Prim.Native.Nat.{_*_, _+_, _%_, _≤_}
-use lib.Dec.{eqb, leb}
+use lib.Dec.{leb}
 use borrow.Author.Tests.{leb-true}
-use Rattle.qspi.specs.Fields.{spe, wren, endqp, halt, bitsOf}
+use Rattle.qspi.specs.Fields.{spe, halt, bitsOf}
 use Rattle.qspi.specs.Parts.{withSpsr, withEntry}
 use Rattle.qspi.specs.Spsr.{raised, haltaIf}
 use Rattle.qspi.specs.Entry.{edgeFallen}
-use Rattle.qspi.specs.Queue.{clock, delayClock, delayed, playClock, counted, edge, judged, completed, followed, stored, begun, faulted, faultNow, misoOf, ready}
+use Rattle.qspi.specs.Queue.{clock, delayClock, delayed, playClock, counted, edge, judged, completed, isLast, wraps, followed, stored, begun, faulted, faultNow, misoOf, ready}
 use Rattle.qspi.specs.Laws.{Starting}
 use Rattle.qspi.specs.declared.Qspi.{Qspi}
 use Rattle.qspi.specs.declared.Pins.{Pins}
@@ -20,7 +20,7 @@ module _ (P : Qspi → Type 0) (r : Qspi) (within : (e : Entry) → P (withEntry
     (ends : (e : Entry) (last wrap : Bool) → P (followed last wrap (stored (withEntry r e)))) where
   judged-by : (b : Bool) (e : Entry) → P (judged b (withEntry r e))
   unfolding completed
-  judged-by true e = ends e (eqb (r .next .pointer % 16) (endqp (r .next .working))) (wren (r .next .working))
+  judged-by true e = ends e (isLast r) (wraps r)
   judged-by false e = within e
 
   counted-by : (b miso : Bool) → P (counted b miso r)

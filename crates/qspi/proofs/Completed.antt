@@ -1,10 +1,7 @@
 -- What the end of an entry keeps. Assumes nothing.
 use mathlib.Core.Path.{_≡_, refl}
 use mathlib.Core.Bool.{Bool, true, false, not, _||_, false≢true, true≢false}
-use Prim.Native.Nat.{_%_}
-use lib.Dec.{eqb}
-use Rattle.qspi.specs.Fields.{wren, endqp}
-use Rattle.qspi.specs.Queue.{stored, wrapped, finished, advanced, followed, completed}
+use Rattle.qspi.specs.Queue.{isLast, wraps, stored, wrapped, finished, advanced, followed, completed}
 use Rattle.qspi.specs.declared.Qspi.{Qspi}
 
 followed-keeps : {A : Type 0} (f : Qspi → A) (last wrap : Bool) (r : Qspi) →
@@ -19,7 +16,7 @@ pub completed-keeps : {A : Type 0} (f : Qspi → A) (r : Qspi) → f (wrapped (s
     f (completed r) ≡ f (stored r)
 unfolding completed
 completed-keeps f r a b c =
-    followed-keeps f (eqb (r .next .pointer % 16) (endqp (r .next .working))) (wren (r .next .working)) (stored r) a b c
+    followed-keeps f (isLast r) (wraps r) (stored r) a b c
 
 followed-on : {A : Type 0} (f : Qspi → A) (v : A) (last wrap : Bool) (r : Qspi) → not last || wrap ≡ true →
     f (wrapped r) ≡ v → f (advanced r) ≡ v → f (followed last wrap r) ≡ v
@@ -29,26 +26,26 @@ followed-on f v false wrap r h a c = c
 
 -- Of the ways on, only the two that keep SPE set.
 pub completed-on : {A : Type 0} (f : Qspi → A) (v : A) (r : Qspi) →
-    not (eqb (r .next .pointer % 16) (endqp (r .next .working))) || wren (r .next .working) ≡ true → f (wrapped (stored r)) ≡ v →
+    not (isLast r) || wraps r ≡ true → f (wrapped (stored r)) ≡ v →
     f (advanced (stored r)) ≡ v → f (completed r) ≡ v
 unfolding completed
 completed-on f v r h a c =
-    followed-on f v (eqb (r .next .pointer % 16) (endqp (r .next .working))) (wren (r .next .working)) (stored r) h a c
+    followed-on f v (isLast r) (wraps r) (stored r) h a c
 
-pub completed-next : (r : Qspi) → eqb (r .next .pointer % 16) (endqp (r .next .working)) ≡ false →
+pub completed-next : (r : Qspi) → isLast r ≡ false →
     completed r ≡ advanced (stored r)
 unfolding completed
 completed-next r h = rw h
 
-pub completed-wraps : (r : Qspi) → eqb (r .next .pointer % 16) (endqp (r .next .working)) ≡ true → wren (r .next .working) ≡ true →
+pub completed-wraps : (r : Qspi) → isLast r ≡ true → wraps r ≡ true →
     completed r ≡ wrapped (stored r)
 unfolding completed
 completed-wraps r h k = rw (h, k)
 
-pub completed-ends : (r : Qspi) → not (eqb (r .next .pointer % 16) (endqp (r .next .working))) || wren (r .next .working) ≡ false →
+pub completed-ends : (r : Qspi) → not (isLast r) || wraps r ≡ false →
     completed r ≡ finished (stored r)
 unfolding completed
-completed-ends r h = ends (eqb (r .next .pointer % 16) (endqp (r .next .working))) (wren (r .next .working)) (stored r) h
+completed-ends r h = ends (isLast r) (wraps r) (stored r) h
   where
     ends : (last wrap : Bool) (r : Qspi) → not last || wrap ≡ false → followed last wrap r ≡ finished r
     ends true true r h = absurd (true≢false h)

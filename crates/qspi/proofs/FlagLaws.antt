@@ -6,7 +6,7 @@ use native.Mathlib.Omega.{arith}
 use borrow.Author.Tests.{eq-eqb, ne-eqb}
 use Rattle.steps.specs.Bits.{bit, digit, merge}
 use Rattle.qspi.specs.Fields.{spe, halt}
-use Rattle.qspi.specs.Spsr.{raised, onlySpif, onlyModf, haltaIf}
+use Rattle.qspi.specs.Spsr.{falls, raised, onlySpif, onlyModf, haltaIf}
 use Rattle.qspi.specs.Registers.{reset, withSpcr1, switched, writeSpcr1}
 use Rattle.qspi.specs.Parts.{withRegisters}
 use Rattle.qspi.specs.Queue.{clock, followed}
@@ -104,21 +104,21 @@ write-spsr q v upper lower =
     (withRegisters q (withSpcr1 (q .registers) (merge (q .registers .spcr1) v upper lower)))
 
 -- A write of byte 1F, for one flag x with its mark s; the write touches the byte if l, and puts b there.
-falls-by : (x l s b : Bool) → s ≡ true → l && not b ≡ true → x && not ((l && s) && not b) ≡ false
+falls-by : (x l s b : Bool) → s ≡ true → l && not b ≡ true → x && not (falls l s b) ≡ false
 falls-by true true true false h k = refl
 falls-by true true true true h k = absurd (false≢true k)
 falls-by true true false b h k = absurd (false≢true h)
 falls-by true false s b h k = absurd (false≢true k)
 falls-by false l s b h k = refl
 
-fell-by : (x l s b : Bool) → x ≡ true → x && not ((l && s) && not b) ≡ false → (s ≡ true) × (l && not b ≡ true)
+fell-by : (x l s b : Bool) → x ≡ true → x && not (falls l s b) ≡ false → (s ≡ true) × (l && not b ≡ true)
 fell-by true true true false h k = (refl, refl)
 fell-by true true true true h k = absurd (true≢false k)
 fell-by true true false b h k = absurd (true≢false k)
 fell-by true false s b h k = absurd (true≢false k)
 fell-by false l s b h k = absurd (false≢true h)
 
-lasts : (l s b : Bool) → s ≡ true → s && not ((l && s) && not b) ≡ not (l && not b)
+lasts : (l s b : Bool) → s ≡ true → s && not (falls l s b) ≡ not (l && not b)
 lasts true true b h = refl
 lasts false true b h = refl
 lasts l false b h = absurd (false≢true h)

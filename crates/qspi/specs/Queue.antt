@@ -62,14 +62,21 @@ wrapped q = withNext (withSpsr q (raised onlySpif (q .spsr))) (withPointer (q .n
 abbrev pub advanced : Qspi → Qspi
 advanced q = withNext q (withPointer (q .next) ((q .next .pointer % 16 + 1) % 16))
 
--- After the store: is it the entry at the working ENDQP, and is WREN set?
+-- The entry at the working ENDQP; the working WREN.
+abbrev pub isLast : Qspi → Bool
+isLast q = eqb (q .next .pointer % 16) (endqp (q .next .working))
+
+abbrev pub wraps : Qspi → Bool
+wraps q = wren (q .next .working)
+
+-- After the store, by these two.
 abbrev pub followed : Bool → Bool → Qspi → Qspi
 followed true true q = wrapped q
 followed true false q = finished q
 followed false wren q = advanced q
 
 unfoldable pub completed : Qspi → Qspi
-completed q = followed (eqb (q .next .pointer % 16) (endqp (q .next .working))) (wren (q .next .working)) (stored q)
+completed q = followed (isLast q) (wraps q) (stored q)
 
 -- Is edge j edge 2n?
 abbrev pub judged : Bool → Qspi → Qspi

@@ -11,7 +11,7 @@ use crate::fields::choose_word;
 use crate::fields::cont;
 use crate::fields::minus;
 use crate::fields::spe;
-use crate::queue::miso_of;
+use crate::inputs::miso_of;
 
 // Clocks before the next edge, the delay's end or clock 1.
 fn before_change(running: bool, ready: bool, left: u16) -> u16

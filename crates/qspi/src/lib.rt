@@ -2,6 +2,7 @@
 pub mod clocks;
 pub mod entry;
 pub mod fields;
+pub mod inputs;
 mod laws;
 pub mod outputs;
 pub mod queue;

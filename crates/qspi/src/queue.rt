@@ -2,11 +2,10 @@
 ghost use mathlib.Core.Path.{_≡_};
 ghost use mathlib.Core.Bool.{cond};
 ghost use Prim.Native.Nat.{_<_};
-ghost use Rattle.qspi.specs.Queue.{wrapTo, entryAt, begun, stored, finished, wrapped, advanced, followed, completed, judged, edge, counted, playClock, delayed, delayClock, ready, clockAt, queueClock, misoOf, selected, faultNow, faulted, clock};
+ghost use Rattle.qspi.specs.Queue.{wrapTo, entryAt, begun, stored, finished, wrapped, advanced, followed, completed, judged, edge, counted, playClock, delayed, delayClock, ready, clockAt, queueClock, faultNow, faulted, clock};
 use crate::Pins;
 use crate::Qspi;
 use crate::entry::started;
-use crate::fields::bit_0;
 use crate::fields::bits_of;
 use crate::fields::delay_after;
 use crate::fields::halt;
@@ -14,6 +13,8 @@ use crate::fields::mstr;
 use crate::fields::spbr;
 use crate::fields::spe;
 use crate::fields::wren;
+use crate::inputs::miso_of;
+use crate::inputs::selected;
 use steps::choose;
 
 // What comes next: the working copy of SPCR2, the pointer, and whether a write touched NEWQP since the last clock 1.
@@ -29,21 +30,6 @@ fn wrap_to(working: u16) -> u8
     ensures { λ r. ⌜ r ≡ wrapTo working ⌝ }
 {
     choose(working / 8192 % 2 == 1, (working % 16) as u8, 0)
-}
-
-// MISO's level, zero unless it is assigned and an input.
-// Ruled out: the level of an output; the level of a pin that is not assigned.
-pub fn miso_of(pins: Pins) -> bool
-    ensures { λ r. ⌜ r ≡ misoOf pins ⌝ }
-{
-    bit_0(pins.pqspar) & !bit_0(pins.ddrqs) & bit_0(pins.levels)
-}
-
-// PQS3 assigned, input and low.
-fn selected(pins: Pins) -> bool
-    ensures { λ r. ⌜ r ≡ selected pins ⌝ }
-{
-    (pins.pqspar / 8 % 2 == 1) & !(pins.ddrqs / 8 % 2 == 1) & !(pins.levels / 8 % 2 == 1)
 }
 
 impl Qspi {

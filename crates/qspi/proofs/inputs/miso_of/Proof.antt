@@ -1,6 +1,6 @@
 use borrow.Author.Needs.{needs}
-use Rattle.qspi.proofs.queue.miso_of.Statement.{statement}
-use Rattle.qspi.proofs.queue.miso_of.Tie as tie
+use Rattle.qspi.proofs.inputs.miso_of.Statement.{statement}
+use Rattle.qspi.proofs.inputs.miso_of.Tie as tie
 
 bit-0-requires : tie.Need-bit-0-requires
 bit-0-requires c κs = search needs
