@@ -98,8 +98,9 @@ module _ (w : ℕ) (p : Bool) where
 -- A write of SPCR2 is such a replacement.
 pub buffered : Buffered
 buffered q v upper lower pins c never =
-    let same : run pins c (writeSpcr2 q v upper lower) ≡ holding _ _ (run pins c q) =
-    run-same (spcr2Bits (merge (q .registers .spcr2) v upper lower)) (q .next .pending || lower) q pins c never in (
+    let r : Qspi = writeSpcr2 q v upper lower in
+    let same : run pins c r ≡ holding (r .registers .spcr2) (r .next .pending) (run pins c q) =
+    run-same (r .registers .spcr2) (r .next .pending) q pins c never in (
       subst (Alike (run pins c q)) (sym same)
           (record {
             spcr0 = refl;
@@ -120,13 +121,9 @@ newqp-bits h l = omega arith
 -- What is pending, and SPCR2, stay to the next clock 1.
 pub newqp-moves : NewqpMoves
 newqp-moves q v upper pins c never =
-    ap entryAt
-    (run-same (spcr2Bits (merge (q .registers .spcr2) v upper true)) (q .next .pending || true)
-    (writeSpcr2 q v upper true) pins c never)
-    ∙ ap
-    (λ b. cond b (newqp (spcr2Bits (merge (q .registers .spcr2) v upper true)))
-    (run pins c (writeSpcr2 q v upper true) .next .pointer % 16))
-    (or-true (q .next .pending))
+    let r : Qspi = writeSpcr2 q v upper true in
+    ap entryAt (run-same (r .registers .spcr2) (r .next .pending) r pins c never)
+    ∙ ap (λ b. cond b (newqp (r .registers .spcr2)) (run pins c r .next .pointer % 16)) (or-true (q .next .pending))
     ∙ newqp-bits (cond upper (upperByte v) (upperByte (q .registers .spcr2))) v
 
 or-false : (b : Bool) → b || false ≡ b
