@@ -7,9 +7,7 @@ use Prim.Native.Nat.{ℕ, zero, suc}
 use lib.ListN.{replicate}
 use Rattle.steps.specs.Iterate.{iterate}
 use Rattle.sci.specs.Flags.{flag}
-use Rattle.sci.specs.Status.{has, raise, raiseIf, fall, fallIf, markSeen, fallSeen}
-use Rattle.sci.specs.Framer.{searching, startBit, dataBit, stopBit, framed}
-use Rattle.sci.specs.Receiver.{outcome, raised, entered, statusAfter, receiverAfter, received}
+use Rattle.sci.specs.Status.{has, raise, raiseIf, fall, markSeen, fallSeen}
 use Rattle.sci.specs.Transmitter.{sent}
 use Rattle.sci.specs.Serial.{resetSci, sampled, clocked, wroteSccr0, wroteSccr1, sccr0Guarded, sccr1Guarded}
 use Rattle.sci.specs.History as sci
@@ -90,25 +88,7 @@ sending =
     }
 
 abbrev pub listening : Sci
-listening =
-    record {
-      sccr0 = 1;
-      sccr1 = 4;
-      status = resetSci .status;
-      prescaler = 1;
-      receiver =
-          record {
-            framer = searching;
-            last1 = true;
-            last2 = true;
-            last3 = false;
-            idle = 2;
-            since = false;
-            asleep = false;
-            scdr = 0;
-          };
-      transmitter = resetSci .transmitter;
-    }
+listening = sci.run (sci.writesSccr0 1 true true ∷ (sci.writesSccr1 4 true true ∷ clocks 5 true)) resetSci
 
 same-past : all past resetModule
     ≡ sci.writesSccr0 1 true true ∷ (sci.reads true false ∷ (sci.writesScdr 0x55 true true ∷ (sci.writesSccr1 8 true true ∷ clocks 321 true)))
@@ -116,7 +96,7 @@ unfolding resetModule does events.writes events.refused decideWrite decideStored
 same-past = refl
 
 pub at-past : run past resetModule .sci ≡ sending
-unfolding has raise raiseIf fall fallIf markSeen fallSeen startBit dataBit stopBit framed outcome raised entered statusAfter receiverAfter received sent sampled clocked wroteSccr0 wroteSccr1 sccr0Guarded sccr1Guarded sci.step sci.run
+unfolding has raise raiseIf fall markSeen fallSeen sent sampled clocked wroteSccr0 wroteSccr1 sccr0Guarded sccr1Guarded sci.step sci.run
 at-past = from-reset past ∙ ap (λ (es : List sci.Step). sci.run es resetSci) same-past
 
 same-past′ : all past′ resetModule ≡ sci.writesSccr0 1 true true ∷ (sci.writesSccr1 4 true true ∷ clocks 5 true)
@@ -124,7 +104,6 @@ unfolding resetModule does events.writes events.refused decideWrite decideStored
 same-past′ = refl
 
 at-past′ : run past′ resetModule .sci ≡ listening
-unfolding has raise raiseIf fall fallIf markSeen fallSeen startBit dataBit stopBit framed outcome raised entered statusAfter receiverAfter received sent sampled clocked wroteSccr0 wroteSccr1 sccr0Guarded sccr1Guarded sci.step sci.run
 at-past′ = from-reset past′ ∙ ap (λ (es : List sci.Step). sci.run es resetSci) same-past′
 
 pub start : halves two ≡ joined sending listening

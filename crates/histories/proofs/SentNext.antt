@@ -5,13 +5,12 @@ use mathlib.Core.Path.{_≡_, refl, ap, sym, subst, _∙_}
 use Prim.Native.Nat.{ℕ, zero, suc, _+_, _*_, _≤_}
 use native.Mathlib.Omega.{arith}
 use lib.ListN.{replicate}
-use Rattle.sci.specs.Status.{has, raise, raiseIf, fall, fallIf, markSeen, fallSeen}
+use Rattle.sci.specs.Status.{has, raise, raiseIf, fall, markSeen, fallSeen}
 use Rattle.sci.specs.Control.{SCBR, M, bitsOf, frameSamples}
-use Rattle.sci.specs.Framer.{startBit, dataBit, stopBit, framed}
-use Rattle.sci.specs.Receiver.{outcome, raised, entered, statusAfter, receiverAfter, received}
 use Rattle.sci.specs.Transmitter.{beginsFrame, sent}
-use Rattle.sci.specs.Serial.{due, sampled, clocked}
+use Rattle.sci.specs.Serial.{due, sampled, clocked, wroteSccr0, wroteSccr1, sccr0Guarded, sccr1Guarded}
 use Rattle.sci.specs.Levels.{endSample}
+use Rattle.sci.specs.History as sci
 use Rattle.sci.specs.BackToBack.{readsData, readsBoth}
 use Rattle.sci.specs.Wire.{Wired, step}
 use Rattle.sci.specs.Wire as wire
@@ -83,7 +82,7 @@ record Next (s : Sci) : Type 0 where
   long : suc (endSample (bitsOf (M (s .sccr1)))) * (2 * SCBR (s .sccr0)) ≡ 308
 
 z-next : Next (z .sender .sci)
-unfolding has raise raiseIf fall fallIf markSeen fallSeen startBit dataBit stopBit framed outcome raised entered statusAfter receiverAfter received sent sampled clocked wire.accessed step wire.steps
+unfolding has raise raiseIf fall markSeen fallSeen sent sampled clocked wire.accessed step wire.steps
 z-next = subst (λ (w : Wired). Next (w .sender)) (sym at-z) (record { sample = refl; frame = refl; long = refl })
 
 other-begins : Begins (z .sender)
@@ -94,7 +93,7 @@ record Gone (w : Wired) : Type 0 where
   count : w .receiver .prescaler ≡ 0
 
 z-gone : Gone (halves (begun (other .frame) z))
-unfolding has raise raiseIf fall fallIf markSeen fallSeen startBit dataBit stopBit framed outcome raised entered statusAfter receiverAfter received sent sampled clocked wire.accessed step wire.steps
+unfolding sci.run sci.step wroteSccr0 wroteSccr1 sccr0Guarded sccr1Guarded sampled clocked wire.accessed step wire.steps
 z-gone =
     subst Gone (clock-halves tick z (line-driven (z .sender) true (begins-driven (z .sender) other-begins)))
     (subst (λ (w : Wired). Gone (step (wire.clock true) w)) (sym at-z) (record { control = refl; count = refl }))

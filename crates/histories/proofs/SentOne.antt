@@ -8,11 +8,12 @@ use Rattle.steps.specs.Iterate.{iterate}
 use Rattle.sci.specs.Flags.{flag}
 use Rattle.sci.specs.Status.{has, raise, raiseIf, fall, fallIf, markSeen, fallSeen}
 use Rattle.sci.specs.Control.{SCBR, M, bitsOf}
-use Rattle.sci.specs.Framer.{searching, startBit, dataBit, stopBit, framed}
-use Rattle.sci.specs.Receiver.{outcome, raised, entered, statusAfter, receiverAfter, received}
+use Rattle.sci.specs.Framer.{framed}
+use Rattle.sci.specs.Receiver.{outcome, entered, statusAfter, receiverAfter, received}
 use Rattle.sci.specs.Transmitter.{beginsFrame, sent}
-use Rattle.sci.specs.Serial.{resetSci, due, sampled, clocked, wroteSccr1}
+use Rattle.sci.specs.Serial.{resetSci, due, sampled, clocked, wroteSccr0, wroteSccr1, sccr0Guarded, sccr1Guarded}
 use Rattle.sci.specs.Levels.{endSample}
+use Rattle.sci.specs.History as sci
 use Rattle.sci.specs.Wire.{Wired, step, Matched}
 use Rattle.sci.specs.Wire as wire
 use Rattle.sci.specs.declared.serial.Sci.{Sci}
@@ -27,7 +28,7 @@ use Rattle.qsm.specs.declared.event.Access.{Access}
 use Rattle.qsm.specs.declared.event.Access.the-variants.{Write}
 use Rattle.qsm.specs.declared.event.Event.the-variants as event
 use Rattle.histories.specs.History.{breaks}
-use Rattle.histories.specs.Demand2.{Two, halves, Moment, clock, atSender, atReceiver, next, Unchanged, begun, ended, Begins, Sends, since}
+use Rattle.histories.specs.Demand2.{Two, halves, Moment, clock, atSender, atReceiver, next, Unchanged, begun, ended, Begins, Sends}
 use Rattle.histories.proofs.Pin.{line-driven}
 use Rattle.histories.proofs.OnWire.{joined, atR}
 use Rattle.histories.proofs.Uncounted.{uncounted}
@@ -57,7 +58,7 @@ at-b =
     ∙ ap (step (wire.clock true)) start
 
 matched : Matched begunHalves
-unfolding has raise raiseIf fallIf step clocked sampled sent received receiverAfter outcome statusAfter entered framed
+unfolding sci.run sci.step wroteSccr0 wroteSccr1 sccr0Guarded sccr1Guarded has raise raiseIf fallIf step clocked sampled sent received receiverAfter outcome statusAfter entered framed
 matched =
     record {
       rate = refl;
@@ -80,7 +81,7 @@ record Heard (s : Sci) : Type 0 where
   count : s .prescaler ≡ 0
 
 b-heard : Heard (b .receiver .sci)
-unfolding step clocked sampled received receiverAfter outcome
+unfolding sci.run sci.step wroteSccr0 wroteSccr1 sccr0Guarded sccr1Guarded step clocked sampled received receiverAfter outcome
 b-heard = subst (λ (w : Wired). Heard (w .receiver)) (sym at-b) (record { control = refl; awake = refl; count = refl })
 
 write-uncounted : (m : Module) → breaks (event.Access (Write true 2 0x0E 0x2A)) m ≡ false
@@ -140,28 +141,10 @@ sentOne =
     }
 
 abbrev pub heardOne : Sci
-heardOne =
-    record {
-      sccr0 = 1;
-      sccr1 = 0x24;
-      status = record { flags = flag 480; seen = flag 0 };
-      prescaler = 0;
-      receiver =
-          record {
-            framer = searching;
-            last1 = true;
-            last2 = true;
-            last3 = true;
-            idle = 10;
-            since = true;
-            asleep = false;
-            scdr = 0x55;
-          };
-      transmitter = resetSci .transmitter;
-    }
+heardOne = step (wire.clock true) (wire.steps oneLater begunHalves) .receiver
 
 passed : step (wire.clock true) (wire.steps oneLater begunHalves) ≡ joined sentOne heardOne
-unfolding has raise raiseIf fall fallIf markSeen fallSeen startBit dataBit stopBit framed outcome raised entered statusAfter receiverAfter received sent sampled clocked wroteSccr1 wire.accessed step wire.steps
+unfolding has raise raiseIf fall markSeen fallSeen sent sampled clocked wroteSccr1 wire.accessed step wire.steps
 passed = refl
 
 abbrev pub e : Two
