@@ -1,0 +1,157 @@
+// A program's command: options, in any place, and words. --help is answered, and what is not expected is said.
+ghost use mathlib.Core.Path.{_≡_};
+ghost use mathlib.Core.Bool.{false};
+ghost use Rattle.io.specs.Counts.{Counts};
+ghost use Rattle.files.specs.Words.{Expected};
+use crate::message::say;
+use crate::message::say_of;
+use crate::words::Word;
+use crate::words::is_option;
+use crate::words::kind;
+use libc::STDERR_FILENO;
+use libc::STDOUT_FILENO;
+
+// Whether the program goes on, whether its option is given, and how many words there are beside options.
+pub struct Command {
+    pub go: bool,
+    pub option: bool,
+    pub words: usize,
+}
+
+// The words of a command: whether --help and the program's option stand among them, the place of an option that is not known, or 0, and how
+// many are no options.
+struct Seen {
+    help: bool,
+    option: bool,
+    unknown: usize,
+    words: usize,
+}
+
+// A word that is longer than any path counts as an empty one.
+fn kind_at(i: usize, option: &[u8]) -> Word {
+    let mut word = io::buffer();
+    let n = os::arg(i, &mut word);
+    kind(&word[..n], b"--help", option)
+}
+
+fn see(option: &[u8]) -> Seen {
+    let count = os::arg_count();
+    let mut help = false;
+    let mut known = false;
+    let mut unknown = 0;
+    let mut words = 0;
+    let mut i = 1;
+    while i < count {
+        let w = kind_at(i, option);
+        match w {
+            Word::Help => help = true,
+            Word::Known => known = true,
+            Word::Unknown => unknown = i,
+            Word::Plain => words += 1,
+        }
+        i += 1;
+    }
+    Seen {
+        help,
+        option: known,
+        unknown,
+        words,
+    }
+}
+
+fn is_plain(i: usize) -> bool {
+    let mut word = io::buffer();
+    let n = os::arg(i, &mut word);
+    !is_option(&word[..n])
+}
+
+// The place among the program's arguments of word k, numbered from 0 without options; past them where there is no such word.
+pub fn word_at(k: usize) -> usize {
+    let count = os::arg_count();
+    let mut left = k;
+    let mut i = 1;
+    while i < count {
+        if is_plain(i) {
+            if left == 0 {
+                return i;
+            }
+            left -= 1;
+        }
+        i += 1;
+    }
+    count
+}
+
+// Word k at the start of a buffer, and its length; 0 where it is not there or too long.
+// Ruled out: a length beyond the buffer; a word cut short.
+pub fn word(k: usize, buf: &mut [u8]) -> usize
+    ensures { λ r. ⌜ Counts r (now (buf .exit)) ⌝ }
+{
+    os::arg(word_at(k), buf)
+}
+
+fn say_unknown(program: &[u8], i: usize) {
+    let mut word = io::buffer();
+    let n = os::arg(i, &mut word);
+    say_of(program, b"unknown option ", &word[..n]);
+}
+
+fn refuse(program: &[u8], seen: Seen, least: usize, usage: &[u8]) {
+    if seen.unknown > 0 {
+        say_unknown(program, seen.unknown);
+    } else if seen.words < least {
+        say(program, b"too few arguments\n");
+    } else {
+        say(program, b"too many arguments\n");
+    }
+    io::write_all(STDERR_FILENO, usage);
+}
+
+fn stop() -> Command
+    ensures { λ r. ⌜ r ≡ record { go = false; option = false; words = 0 } ⌝ }
+{
+    Command {
+        go: false,
+        option: false,
+        words: 0,
+    }
+}
+
+// The command, where it has from `least` to `most` words beside options, and no option that the program doesn't know. Otherwise what is
+// wrong is said, with the usage. --help writes the usage and the help, and the program does not go on.
+// Ruled out: a program that goes on without a word that it needs; one that goes on with a word that it won't look at.
+pub fn read(
+    program: &[u8],
+    option: &[u8],
+    least: usize,
+    most: usize,
+    usage: &[u8],
+    help: &[u8],
+) -> Command
+    ensures { λ r. ⌜ Expected least most (r .go) (r .words) ⌝ }
+{
+    let seen = see(option);
+    let words = seen.words;
+    if seen.help {
+        io::write_all(STDOUT_FILENO, usage);
+        io::write_all(STDOUT_FILENO, help);
+        return stop();
+    }
+    if seen.unknown > 0 {
+        refuse(program, seen, least, usage);
+        return stop();
+    }
+    if words < least {
+        refuse(program, seen, least, usage);
+        return stop();
+    }
+    if words > most {
+        refuse(program, seen, least, usage);
+        return stop();
+    }
+    Command {
+        go: true,
+        option: seen.option,
+        words,
+    }
+}
