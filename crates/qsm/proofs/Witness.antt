@@ -7,7 +7,7 @@ use Rattle.sci.specs.Serial.{clocked, wroteSccr1, sccr1Guarded}
 use Rattle.qspi.specs.Registers.{reset, writeSpcr1}
 use Rattle.qspi.specs.Queue.{clock, queueClock}
 use Rattle.qsm.specs.State.{resetModule}
-use Rattle.qsm.specs.Map.{decode, decodeRam}
+use Rattle.qsm.specs.Map.{decode}
 use Rattle.qsm.specs.Lanes.{inMap, isRestricted}
 use Rattle.qsm.specs.Own.{putOwn, ownUnmodelled}
 use Rattle.qsm.specs.Serial.{peekSerial, putSerial, serialUnmodelled, serialGuarded, serialRead}
@@ -20,7 +20,7 @@ use Rattle.qsm.specs.Event.{answerOf, clockModule, clocks, afterRead, re
 use Rattle.qsm.specs.Witness.{Met}
 
 pub met : Met
-unfolding step does reads writes holds refused answerOf request clocks clockModule afterRead readValue fetched fetch iterate store stored storedBy decideStored decideRead admitted inMap isRestricted decode decodeRam peek put unmodelled guarded putOwn ownUnmodelled peekSerial putSerial serialUnmodelled serialGuarded serialRead peekQueue putQueue queueUnmodelled queueGuarded queueRead resetModule reset writeSpcr1 wroteSccr1 sccr1Guarded has fall markSeen clocked clock queueClock
+unfolding step does reads writes holds refused answerOf request clocks clockModule afterRead readValue fetched fetch iterate store stored storedBy decideStored decideRead admitted inMap isRestricted decode peek put unmodelled guarded putOwn ownUnmodelled peekSerial putSerial serialUnmodelled serialGuarded serialRead peekQueue putQueue queueUnmodelled queueGuarded queueRead resetModule reset writeSpcr1 wroteSccr1 sccr1Guarded has fall markSeen clocked clock queueClock
 met =
     record {
       on = refl;
