@@ -1,4 +1,5 @@
 pub mod Puts
 pub mod Decimal
+pub mod Numbers
 pub mod Lengths
 pub mod ReadBack

@@ -1,4 +1,4 @@
--- What is shown of the texts: decimal digits give the number back, and an answer's bytes in a log give the answer back.
+-- What is shown of the texts: decimal digits give the number back, to a reader and to the code, and an answer's bytes in a log give the answer back.
 use mathlib.Core.Path.{_≡_}
 use mathlib.Core.List.{List, [], _∷_, _++_}
 use Prim.Native.Nat.{ℕ, _+_, _-_, _*_, _≤_, _<_, _^_}
@@ -6,7 +6,9 @@ use lib.Bits.{bitAnd}
 use Rattle.qsm.specs.declared.event.Answer.{Answer}
 use Rattle.trace.specs.Trace.{answerBytes}
 use Rattle.text.specs.Digits.{decimal}
+use Rattle.text.specs.Number.{numberOf}
 use Rattle.text.specs.Log.{entry}
+use Rattle.text.specs.declared.number.Number.the-variants.{Is}
 use Rattle.text.specs.declared.log.Entry.the-variants.{Whole}
 
 -- The number of decimal digits behind those of n.
@@ -18,6 +20,10 @@ valued n (d ∷ ds) = valued (n * 10 + (d - 48)) ds
 abbrev pub DigitsGiveBack : Type 0
 DigitsGiveBack = (digits n : ℕ) → n < 10 ^ digits → valued 0 (decimal digits n) ≡ n
 
+-- A number in decimal is read back.
+abbrev pub NumbersGiveBack : Type 0
+NumbersGiveBack = (n : ℕ) → n < 2 ^ 64 → numberOf (decimal 20 n) ≡ Is n
+
 -- What the trace writes is read back.
 abbrev pub BytesGiveBack : Type 0
 BytesGiveBack =
@@ -26,4 +32,5 @@ BytesGiveBack =
 
 pub record GivenBack : Type 0 where
   pub digits : DigitsGiveBack
+  pub numbers : NumbersGiveBack
   pub bytes : BytesGiveBack

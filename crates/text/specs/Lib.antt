@@ -1,4 +1,5 @@
 pub mod Digits
+pub mod Number
 pub mod Line
 pub mod Answer
 pub mod Register

@@ -3,5 +3,6 @@ pub mod answer;
 mod claims;
 pub mod line;
 pub mod log;
+pub mod number;
 pub mod record;
 pub mod register;
