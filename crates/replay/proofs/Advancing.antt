@@ -10,10 +10,10 @@ use Rattle.trace.specs.Trace.{answerLength}
 use Rattle.trace.specs.Play.{play, Plays}
 use Rattle.trace.specs.declared.Played.{Played}
 use Rattle.trace.proofs.Laws.{ten-bytes-each}
-use Rattle.replay.specs.Run.{counted, Advances}
-use Rattle.replay.specs.declared.Run.{Run}
-use Rattle.replay.specs.declared.Advanced.{Advanced}
-use Rattle.replay.proofs.Carried.{carried}
+use Rattle.files.specs.Pieces.{counted, left, carried}
+use Rattle.replay.specs.Run.{Advances}
+use Rattle.replay.specs.declared.run.Run.{Run}
+use Rattle.replay.specs.declared.run.Advanced.{Advanced}
 
 drop-take : (k n : ℕ) (l : List ℕ) → k ≤ n → n ≤ length l → drop k (take n l) ≡ take (n - k) (drop k l)
 drop-take k n l h i =
@@ -34,19 +34,20 @@ module _ (r : Run) (buf out₀ out : List ℕ) (total : ℕ) (ended : Bool) (fit
         stop = p .stop;
       }
 
-  pub advances : (records place : ℕ) (left : List ℕ) → records ≡ counted (r .records) (p .written / answerLength) → place ≡ counted (r .place) (p .read)
-      → left ≡ carried buf (p .read) (total - p .read) → Advances r (take total buf) ended (length out₀) (after records place) left out
-  advances records place left is-records is-place is-left =
+  pub advances : (records place : ℕ) (rest : List ℕ) → records ≡ counted (r .records) (p .written / answerLength) → place ≡ counted (r .place) (p .read)
+      → rest ≡ carried buf (p .read) total → Advances r (take total buf) ended (length out₀) (after records place) rest out
+  advances records place rest is-records is-place is-rest =
       let t = take total buf in
       let o = play (r .state) t (length out₀) in
       let part : length t ≡ total = length-take-le total buf fits in
       let count : p .written / answerLength ≡ length (o .records) = ap (λ (n : ℕ). n / answerLength) (plays .written) ∙ tenth (length (o .records)) in
-      let rest : length (take (total - p .read) (drop (p .read) buf)) ≡ total - p .read = length-take-le (total - p .read) (drop (p .read) buf) (simp length-drop (omega arith)) in
+      let few : left buf (p .read) total ≡ total - p .read = omega arith in
+      let size : length (take (total - p .read) (drop (p .read) buf)) ≡ total - p .read = length-take-le (total - p .read) (drop (p .read) buf) (simp length-drop (omega arith)) in
       record {
         run = rw (is-records, is-place, count, plays .state, plays .read, part);
         log = ap (take (p .written)) (plays .output) ∙ take-at (o .answers) (drop (p .written) out₀) (p .written) (ten-bytes-each (r .state) t (length out₀) ∙ sym (plays .written));
         rest =
-            ap (take (total - p .read)) is-left ∙ take-at (take (total - p .read) (drop (p .read) buf)) (drop (total - p .read) buf) (total - p .read) rest
+            ap (take (total - p .read)) (is-rest ∙ rw few) ∙ take-at (take (total - p .read) (drop (p .read) buf)) (drop (total - p .read) buf) (total - p .read) size
             ∙ sym (drop-take (p .read) total buf within fits) ∙ ap (λ (k : ℕ). drop k t) (plays .read);
         stop = plays .stop;
       }

@@ -2,20 +2,17 @@
 use mathlib.Core.Path.{_≡_}
 use mathlib.Core.Bool.{Bool, cond}
 use mathlib.Core.List.{List, flatten}
-use Prim.Native.Nat.{ℕ, _+_, _-_, _^_, min}
+use Prim.Native.Nat.{ℕ, _-_}
 use lib.ListN.{length, take}
 use Rattle.trace.specs.Play.{Outcome, stopNumber, play}
 use Rattle.trace.specs.Laws.{unread}
 use Rattle.trace.specs.declared.Stop.{Stop}
 use Rattle.trace.specs.declared.Stop.the-variants.{End, UnknownKind, CutRecord, NoRoom}
-use Rattle.replay.specs.declared.Run.{Run}
-use Rattle.replay.specs.declared.Next.{Next}
-use Rattle.replay.specs.declared.Next.the-variants.{More, Done, Refused}
-use Rattle.replay.specs.declared.Advanced.{Advanced}
-
--- A count that stays at the largest number.
-abbrev pub counted : ℕ → ℕ → ℕ
-counted count more = min (count + more) (2 ^ 64 - 1)
+use Rattle.files.specs.Pieces.{counted}
+use Rattle.replay.specs.declared.run.Run.{Run}
+use Rattle.replay.specs.declared.run.Next.{Next}
+use Rattle.replay.specs.declared.run.Next.the-variants.{More, Done, Refused}
+use Rattle.replay.specs.declared.run.Advanced.{Advanced}
 
 -- What follows a buffer. A full output is written, and the trace goes on.
 abbrev pub afterStop : Stop → Bool → Next

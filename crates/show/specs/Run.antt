@@ -3,7 +3,7 @@ use mathlib.Core.Path.{_≡_}
 use mathlib.Core.Logic.{_⊎_}
 use mathlib.Core.Bool.{Bool, true, false}
 use mathlib.Core.List.{List}
-use Prim.Native.Nat.{ℕ, _+_, _-_, _^_, _<_, min}
+use Prim.Native.Nat.{ℕ, _+_, _<_}
 use lib.ListN.{length, set, take}
 use Rattle.trace.specs.Trace.{parsed}
 use Rattle.trace.specs.declared.Parsed.{Parsed}
@@ -11,9 +11,10 @@ use Rattle.trace.specs.declared.Parsed.the-variants.{Record, Unknown, Cut}
 use Rattle.text.specs.Log.{entry}
 use Rattle.text.specs.declared.log.Entry.{Entry}
 use Rattle.text.specs.declared.log.Entry.the-variants as log
+use Rattle.text.specs.declared.message.Fault.the-variants.{NoAnswer, NoRefusal, NotDriven, NoRecord}
+use Rattle.files.specs.Pieces.{counted}
 use Rattle.show.specs.declared.run.Run.{Run}
 use Rattle.show.specs.declared.run.Turned.{Turned}
-use Rattle.show.specs.declared.item.Fault.the-variants.{NoAnswer, NoRefusal, NotDriven, UnknownKind}
 use Rattle.show.specs.declared.run.Next.the-variants as next
 use Rattle.show.specs.declared.item.Step.{Step}
 use Rattle.show.specs.declared.item.Step.the-variants.{Shown, More, Bad, NotWritten}
@@ -31,17 +32,13 @@ OfAnswer log.Cut s = s ≡ More
 
 abbrev pub OfRecord : Parsed → Step → Type 0
 OfRecord (Record e n) s = Written s
-OfRecord Unknown s = s ≡ Bad UnknownKind
+OfRecord Unknown s = s ≡ Bad NoRecord
 OfRecord Cut s = s ≡ More
 
 -- What becomes of the bytes that are there.
 abbrev pub OfBytes : Bool → List ℕ → Step → Type 0
 OfBytes true t s = OfRecord (parsed t) s
 OfBytes false t s = OfAnswer (entry t) s
-
--- A count that stays at the largest number.
-abbrev pub oneMore : ℕ → ℕ
-oneMore n = min (n + 1) (2 ^ 64 - 1)
 
 -- A run that has read the byte behind those that wait.
 abbrev pub stored : Run → ℕ → Run
@@ -51,7 +48,7 @@ stored r b =
       have = r .have;
       number = r .number;
       place = r .place;
-      read = oneMore (r .read);
+      read = counted (r .read) 1;
     }
 
 -- The next answer or record is one further and begins where the bytes read end.
@@ -60,7 +57,7 @@ past r =
     record {
       bytes = r .bytes;
       have = 0;
-      number = oneMore (r .number);
+      number = counted (r .number) 1;
       place = r .read;
       read = r .read;
     }

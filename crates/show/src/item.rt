@@ -1,22 +1,13 @@
 // What becomes of the bytes of an answer or record that are there: its line is written, they wait for more, or something is wrong.
-ghost use Prim.Native.Nat.{_≤_};
-ghost use lib.ListN.{length};
 ghost use Rattle.trace.specs.Trace.{parsed};
 ghost use Rattle.text.specs.Log.{entry};
 ghost use Rattle.show.specs.Run.{OfAnswer, OfRecord, OfBytes};
+use files::output::write_first;
 use libc::STDOUT_FILENO;
 use text::line::Line;
 use text::log::Entry;
+use text::message::Fault;
 use trace::Parsed;
-
-// What is wrong with an answer or a record.
-pub enum Fault {
-    NoAnswer,
-    NoRefusal,
-    NotDriven,
-    UnknownKind,
-    Cut,
-}
 
 // What becomes of the bytes of an answer or record that are there.
 pub enum Step {
@@ -26,12 +17,10 @@ pub enum Step {
     NotWritten,
 }
 
-fn write_line(line: Line) -> bool
-    requires { ⌜ line .length ≤ length (line .bytes) ⌝ }
-{
+fn write_line(line: Line) -> bool {
     let n = line.length;
     let bytes = line.bytes;
-    io::write_all(STDOUT_FILENO, &bytes[..n])
+    write_first(STDOUT_FILENO, &bytes, n)
 }
 
 fn show_answer(number: u64, bytes: &[u8]) -> Step
@@ -65,7 +54,7 @@ fn show_record(number: u64, bytes: &[u8]) -> Step
                 Step::NotWritten
             }
         }
-        Parsed::Unknown => Step::Bad(Fault::UnknownKind),
+        Parsed::Unknown => Step::Bad(Fault::NoRecord),
         Parsed::Cut => Step::More,
     }
 }

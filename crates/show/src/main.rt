@@ -1,64 +1,69 @@
 // Shows a log, or with --trace a trace, as text, a line an answer or record: from a file or from standard input, of any length.
-use libc::STDIN_FILENO;
+use files::message::fail;
+use files::message::say;
+use files::message::say_first;
+use run::Next;
+use run::Turned;
+use text::line::Line;
 
 mod item;
 mod run;
-mod say;
 
-fn show_file(traces: bool, path: &[u8]) {
-    let fd = os::open_read(path);
-    if fd < 0 {
-        say::fail(path);
-        return;
-    }
-    say::report(traces, run::show(fd, traces), path);
-    libc::close(fd);
+fn say_line(line: Line) {
+    let n = line.length;
+    let bytes = line.bytes;
+    say_first(b"show", &bytes, n);
 }
 
-// The word --trace.
-fn is_option(word: &[u8]) -> bool {
-    let option = b"--trace";
-    if word.len() != 7 {
-        return false;
-    }
-    let mut i = 0;
-    while i < 7 {
-        if word[i] != option[i] {
-            return false;
+// What is wrong is said with the number, from 0, of its answer or record, and its place in bytes.
+fn report(traces: bool, t: Turned, name: &[u8]) {
+    let at = t.run;
+    let next = t.next;
+    match next {
+        Next::Done => {}
+        Next::Bad(fault) => {
+            say_line(text::message::fault_line(traces, fault, at.number, at.place))
         }
-        i += 1;
+        Next::NotRead => fail(b"show", name),
+        Next::NotWritten => fail(b"show", b"standard output"),
+        Next::More => say(b"show", b"input too long\n"),
     }
-    true
-}
-
-// The file that the argument at an index names, or standard input.
-fn show_argument(traces: bool, index: usize) {
-    let count = os::arg_count();
-    if count <= index {
-        say::report(traces, run::show(STDIN_FILENO, traces), b"standard input");
-        return;
-    }
-    if count - index > 1 {
-        say::say(b"show: too many arguments\n");
-        say::usage();
-        return;
-    }
-    let mut path = io::buffer();
-    let n = os::arg(index, &mut path);
-    if os::errno() != 0 {
-        say::fail(b"the file's name");
-        say::usage();
-        return;
-    }
-    show_file(traces, &path[..n]);
 }
 
 fn main() {
-    let mut word = io::buffer();
-    let n = os::arg(1, &mut word);
-    if is_option(&word[..n]) {
-        show_argument(true, 2);
-    } else {
-        show_argument(false, 1);
+    let c = files::command::read(
+        b"show",
+        b"--trace",
+        0,
+        1,
+        b"usage: show [LOG]\n       show --trace [TRACE]\n",
+        b"\
+Prints a log as text, a line for each answer; with --trace, a trace, a line for each
+record. Without a file, or with -, it reads standard input.
+
+  replay trace.bin | show        8: refusal 2 (unmapped), value 00000000, pins TXD=0, no request
+  show --trace trace.bin         8: read as supervisor, width 2, unmapped at 0002
+
+The refusals of an answer, each of which has changed nothing in the module:
+  1 (misshapen)       width not 1, 2 or 4; odd offset with 2 or 4; value too big for the width
+  2 (unmapped)        a byte that is not in the register map
+  3 (unmodelled bit)  a write sets a bit that is not modelled, BITS 1 to 7, or SPE with MSTR clear
+  4 (guarded field)   a write changes a guarded field while its half of the module is on
+What is no log or no trace is reported on standard error, with its number from 0 and its
+place in bytes; what came before it is printed.
+",
+    );
+    if !c.go {
+        return;
     }
+    let traces = c.option;
+    let mut name = io::buffer();
+    let i = files::input::open(b"show", 0, &mut name);
+    let fd = i.fd;
+    let n = i.name;
+    if fd < 0 {
+        return;
+    }
+    report(traces, run::show(fd, traces), &name[..n]);
+    libc::close(fd);
 }

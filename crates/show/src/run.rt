@@ -1,9 +1,11 @@
 // Answers or records shown one after the other, however the input comes in: byte by byte they are collected until one is whole.
 ghost use mathlib.Core.Path.{_≡_};
-ghost use Rattle.show.specs.Run.{oneMore, past, Takes, Ready};
-use crate::item::Fault;
+ghost use Rattle.show.specs.Run.{past, Takes, Ready};
 use crate::item::Step;
 use crate::item::show_bytes;
+use files::pieces::counted;
+use files::pieces::fill;
+use text::message::Fault;
 
 pub enum Next {
     More,
@@ -27,13 +29,6 @@ pub struct Turned {
     pub next: Next,
 }
 
-// A count that stays at the largest number.
-fn one_more(n: u64) -> u64
-    ensures { λ r. ⌜ r ≡ oneMore n ⌝ }
-{
-    if n < u64::MAX { n + 1 } else { n }
-}
-
 impl Run {
     fn start() -> Run
         ensures { λ r. ⌜ Ready r ⌝ }
@@ -52,7 +47,7 @@ impl Run {
         ensures { λ r. ⌜ r ≡ past self ⌝ }
     {
         self.have = 0;
-        self.number = one_more(self.number);
+        self.number = counted(self.number, 1);
         self.place = self.read;
         self
     }
@@ -67,7 +62,7 @@ fn take(traces: bool, run: Run, b: u8) -> Turned
     let mut now = run;
     let at = now.have;
     now.bytes[at] = b;
-    now.read = one_more(now.read);
+    now.read = counted(now.read, 1);
     let bytes = now.bytes;
     let end = at + 1;
     let s = show_bytes(traces, now.number, &bytes[..end]);
@@ -140,17 +135,17 @@ fn turn(fd: i32, traces: bool, run: Run, buf: &mut [u8]) -> Turned
     requires { ⌜ Ready run ⌝ }
     ensures { λ r. ⌜ Ready (r .run) ⌝ }
 {
-    let got = libc::read(fd, buf);
-    if got < 0 {
+    let f = fill(fd, buf, 0, false);
+    if f.failed {
         return Turned {
             run,
             next: Next::NotRead,
         };
     }
-    if got == 0 {
+    if f.ended {
         return finish(run);
     }
-    let n = io::count(got, buf);
+    let n = f.total;
     take_all(traces, run, &buf[..n])
 }
 

@@ -30,11 +30,11 @@ use Rattle.text.specs.Record.{privilege, place, hold, access, event, rec
 use Rattle.text.specs.declared.register.Part.{Part}
 use Rattle.text.specs.declared.register.Part.the-variants.{Upper, Lower, Whole}
 
-either : (b : Bool) (s t : List ℕ) (m : ℕ) → length s ≤ m → length t ≤ m → length (cond b s t) ≤ m
+pub either : (b : Bool) (s t : List ℕ) (m : ℕ) → length s ≤ m → length t ≤ m → length (cond b s t) ≤ m
 either true s t m h i = h
 either false s t m h i = i
 
-decimal-length : (digits n : ℕ) → length (decimal digits n) ≤ digits
+pub decimal-length : (digits n : ℕ) → length (decimal digits n) ≤ digits
 unfolding decimal
 decimal-length zero n = omega arith
 decimal-length (suc digits) n =

@@ -2,4 +2,5 @@ pub mod Puts
 pub mod Decimal
 pub mod Numbers
 pub mod Lengths
+pub mod Messages
 pub mod ReadBack

@@ -1,11 +1,11 @@
 -- A line with one text more and then another, and what it shows. Assumes nothing.
 use mathlib.Core.Path.{_≡_, refl, sym, ap, _∙_}
 use mathlib.Core.List.{List, [], _∷_, _++_, append-nil, append-assoc}
-use Prim.Native.Nat.{ℕ, suc, _+_, _<_, _≤_}
+use Prim.Native.Nat.{ℕ, suc, _+_, _-_, _<_, _≤_}
 use native.Mathlib.Numerals.{add-one}
 use native.Mathlib.Omega.{arith}
-use lib.ListN.{length, take, getD, set, length-set, length-take, length-replicate}
-use lib.Seq.{take-suc, take-suc-set}
+use lib.ListN.{length, take, getD, replicate, length-append}
+use lib.Seq.{take-suc, set-append-seam}
 use borrow.Author.Tests.{lt-ltb}
 use Rattle.text.specs.Line.{room, empty, put, puts, Shows}
 use Rattle.text.specs.declared.line.Line.{Line}
@@ -33,27 +33,22 @@ puts-more l t i h = rw (put-puts, puts-append, add-one, take-suc t i 0 h)
 
 -- ---- a text that fits is shown whole
 
-abbrev stored : Line → ℕ → Line
-stored l b = record { bytes = set (l .bytes) (l .length) b; length = l .length + 1 }
+-- A line of a text, with so many zeros behind it.
+abbrev filled : List ℕ → ℕ → Line
+filled s left = record { bytes = s ++ replicate left 0; length = length s }
 
-put-stored : (l : Line) (b : ℕ) → l .length < room → put l b ≡ stored l b
+put-filled : (s : List ℕ) (left b : ℕ) → length s < room → put (filled s (suc left)) b ≡ filled (s ++ (b ∷ [])) left
 unfolding put
-put-stored l b h = rw (lt-ltb (l .length) room h)
+put-filled s left b h =
+    rw (lt-ltb (length s) room h, set-append-seam s 0 (replicate left 0) b, append-assoc s (b ∷ []) (replicate left 0), length-append s (b ∷ []))
 
-abbrev Behind : Line → List ℕ → Line → Type 0
-Behind l t r = (take (r .length) (r .bytes) ≡ take (l .length) (l .bytes) ++ t) × (r .length ≡ l .length + length t)
-
-shows-behind : (l : Line) (t : List ℕ) → length (l .bytes) ≡ room → l .length + length t ≤ room → Behind l t (puts l t)
-shows-behind l [] all fits = rw puts-none (sym (append-nil _), omega arith)
-shows-behind l (b ∷ t) all fits =
-    rw (puts-first, put-stored l b (omega arith))
-    (let on : Behind (stored l b) t (puts (stored l b) t) =
-    shows-behind (stored l b) t (length-set (l .bytes) (l .length) b ∙ all) (omega arith) in (
-      on .0 ∙ rw (add-one, take-suc-set (l .bytes) (l .length) b (omega arith)) (append-assoc (take (l .length) (l .bytes)) (b ∷ []) t),
-      omega arith,
-    ))
+puts-filled : (s t : List ℕ) (left : ℕ) → length s + (length t + left) ≡ room → puts (filled s (length t + left)) t ≡ filled (s ++ t) left
+puts-filled s [] left all = let none : 0 + left ≡ left = omega arith in rw (none, puts-none, append-nil)
+puts-filled s (b ∷ t) left all =
+    let more : suc (length t) + left ≡ suc (length t + left) = omega arith in
+    rw (more, puts-first, put-filled s (length t + left) b (omega arith), puts-filled (s ++ (b ∷ [])) t left (simp length-append (omega arith)), append-assoc s (b ∷ []) t)
 
 pub shows : (t : List ℕ) → length t ≤ room → Shows (puts empty t) t
 shows t fits =
-    let behind : Behind empty t (puts empty t) = shows-behind empty t (length-replicate {A = ℕ} room 0) (omega arith) in
-    record { text = behind .0; fits = omega (arith, simp length-take at (ap length (behind .0))) }
+    let all : room ≡ length t + (room - length t) = omega arith in
+    record { line = ap (λ (n : ℕ). puts (filled [] n) t) all ∙ puts-filled [] t (room - length t) (omega arith); fits = fits }

@@ -5,4 +5,5 @@ pub mod Answer
 pub mod Register
 pub mod Record
 pub mod Log
+pub mod Message
 pub mod Laws

@@ -21,7 +21,7 @@ returns c =
       record {
         step = shows .result;
         allowed = shows .ensures;
-        left = rw (c .before .enum-told .given .1, c .past .ensures, c .before .before .before .before .before .before .one-more .ensures);
+        left = rw (c .before .enum-told .given .1, c .past .ensures, c .before .before .before .before .before .before .counted .ensures);
       },
       rw (c .past .ensures) (record { waits = omega arith; room = simp length-set (start .pre .room) }),
     )
@@ -38,7 +38,7 @@ returns-2 c =
       record {
         step = shows .result;
         allowed = shows .ensures;
-        left = rw (c .enum-told2 .given .1, c .before .before .before .before .before .one-more .ensures);
+        left = rw (c .enum-told2 .given .1, c .before .before .before .before .before .counted .ensures);
       },
       record { waits = omega (arith, waits, part); room = simp length-set (start .pre .room) },
     )
@@ -50,7 +50,7 @@ returns-3 c =
       record {
         step = shows .result;
         allowed = shows .ensures;
-        left = rw (c .before .s .given .1, c .before .before .before .before .before .before .one-more .ensures);
+        left = rw (c .before .s .given .1, c .before .before .before .before .before .before .counted .ensures);
       },
       record { waits = start .pre .waits; room = simp length-set (start .pre .room) },
     )
@@ -62,7 +62,7 @@ returns-4 c =
       record {
         step = shows .result;
         allowed = shows .ensures;
-        left = rw (c .enum-told3 .given .1, c .before .before .before .before .before .one-more .ensures);
+        left = rw (c .enum-told3 .given .1, c .before .before .before .before .before .counted .ensures);
       },
       record { waits = start .pre .waits; room = simp length-set (start .pre .room) },
     )

@@ -3,7 +3,7 @@ use Rattle.show.proofs.run.Run.past.Statement.{statement}
 use Rattle.show.proofs.run.Run.past.Tie as tie
 
 returns : tie.Need-returns
-returns c = rw (c .one-more .ensures)
+returns c = rw (c .counted .ensures)
 
 pub past-spec : {M : Type 1} → statement M
 past-spec = tie.close (tie.spec (λ c κs. search needs) returns)

@@ -1,13 +1,12 @@
 use mathlib.Core.Path.{_≡_, sym}
-use Prim.Native.Nat.{_≤_}
 use native.Mathlib.Omega.{arith}
 use borrow.Author.Needs.{needs}
 use lib.ListN.{length}
-use Rattle.replay.proofs.replay.Statement.{statement}
-use Rattle.replay.proofs.replay.Tie as tie
+use Rattle.replay.proofs.run.replay.Statement.{statement}
+use Rattle.replay.proofs.run.replay.Tie as tie
 
 abbrev Inv-loop : tie.InvT-loop
-Inv-loop fd buf₀ out₀ run₀ turns₀ buf out run turns = (length buf ≡ 65536) × (length out ≡ 655360) × (run .have ≤ 65536)
+Inv-loop fd buf₀ out₀ run₀ turns₀ buf out run turns = (length buf ≡ 65536) × (length out ≡ 655360)
 
 abbrev μ-loop : tie.MeasureT-loop
 μ-loop fd buf₀ out₀ run₀ turns₀ buf out run turns = turns
@@ -22,7 +21,7 @@ reset-requires : tie.Need-reset-requires Inv-loop μ-loop
 reset-requires c κs = tt
 
 loop-holds : tie.Need-loop-holds Inv-loop μ-loop
-loop-holds c = (sym (c .before .before .large-buffer .ensures), sym (c .before .answers .ensures), omega arith)
+loop-holds c = (sym (c .before .before .large-buffer .ensures), sym (c .before .answers .ensures))
 
 returns : tie.Need-returns Inv-loop μ-loop
 returns c = tt

@@ -6,8 +6,8 @@ use lib.ListN.{length, take}
 use lib.Seq.{length-take-le}
 use Rattle.trace.proofs.Laws.{read-within, written-within}
 use borrow.Author.Needs.{needs}
-use Rattle.replay.proofs.pass.Statement.{statement}
-use Rattle.replay.proofs.pass.Tie as tie
+use Rattle.replay.proofs.run.pass.Statement.{statement}
+use Rattle.replay.proofs.run.pass.Tie as tie
 
 slice-aggregate-play : tie.Need-slice-aggregate-play
 slice-aggregate-play c = sym (length-take-le _ _ (search needs))

@@ -2,8 +2,8 @@
 use mathlib.Core.Path.{sym}
 use Prim.Native.Nat.{ℕ}
 use lib.ListN.{length-replicate}
-use Rattle.replay.proofs.answers.Statement.{statement}
-use Rattle.replay.proofs.answers.Tie as tie
+use Rattle.replay.proofs.run.answers.Statement.{statement}
+use Rattle.replay.proofs.run.answers.Tie as tie
 
 returns : tie.Need-returns
 returns c = sym (length-replicate {A = ℕ} 655360 0)

@@ -1,6 +1,6 @@
 use borrow.Author.Needs.{needs}
-use Rattle.replay.proofs.after_stop.Statement.{statement}
-use Rattle.replay.proofs.after_stop.Tie as tie
+use Rattle.replay.proofs.run.after_stop.Statement.{statement}
+use Rattle.replay.proofs.run.after_stop.Tie as tie
 
 returns : tie.Need-returns
 returns c = rw (c .at-end .ensures, c .before .enum-told .given .1)
