@@ -126,8 +126,8 @@ struct qsm_sci {
 };
 
 struct qsm_registers {
-    uint16_t spcr0, spcr1, spcr2;
     uint8_t spcr3;
+    uint16_t spcr0, spcr1, spcr2;
 };
 
 struct qsm_spsr_flags {
@@ -240,8 +240,8 @@ QSM_STRUCT(qsm_transmitter, 2, 6); QSM_AT(qsm_transmitter, preamble, 0, 1); QSM_
 QSM_AT(qsm_transmitter, shift, 2, 2); QSM_AT(qsm_transmitter, scdr, 4, 2);
 QSM_STRUCT(qsm_sci, 2, 34); QSM_AT(qsm_sci, sccr0, 0, 2); QSM_AT(qsm_sci, sccr1, 2, 2); QSM_AT(qsm_sci, prescaler, 4, 2);
 QSM_AT(qsm_sci, status, 6, 4); QSM_AT(qsm_sci, receiver, 10, 18); QSM_AT(qsm_sci, transmitter, 28, 6);
-QSM_STRUCT(qsm_registers, 2, 8); QSM_AT(qsm_registers, spcr0, 0, 2); QSM_AT(qsm_registers, spcr1, 2, 2);
-QSM_AT(qsm_registers, spcr2, 4, 2); QSM_AT(qsm_registers, spcr3, 6, 1);
+QSM_STRUCT(qsm_registers, 2, 8); QSM_AT(qsm_registers, spcr3, 0, 1); QSM_AT(qsm_registers, spcr0, 2, 2);
+QSM_AT(qsm_registers, spcr1, 4, 2); QSM_AT(qsm_registers, spcr2, 6, 2);
 QSM_STRUCT(qsm_spsr_flags, 1, 3); QSM_AT(qsm_spsr_flags, spif, 0, 1); QSM_AT(qsm_spsr_flags, modf, 1, 1);
 QSM_AT(qsm_spsr_flags, halta, 2, 1);
 QSM_STRUCT(qsm_spsr, 1, 7); QSM_AT(qsm_spsr, flags, 0, 3); QSM_AT(qsm_spsr, seen, 3, 3); QSM_AT(qsm_spsr, cptqp, 6, 1);

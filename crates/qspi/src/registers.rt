@@ -15,12 +15,13 @@ use steps::merge;
 use steps::upper_byte;
 use steps::word;
 
+// SPCR3 stands first for the speed alone.
 #[repr(C)]
 pub struct Registers {
+    pub spcr3: u8,
     pub spcr0: u16,
     pub spcr1: u16,
     pub spcr2: u16,
-    pub spcr3: u8,
 }
 
 impl Registers {

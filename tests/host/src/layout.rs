@@ -20,7 +20,7 @@ layout!(Receiver, 2, 18;
 );
 layout!(Transmitter, 2, 6; preamble 0, left 1, shift 2, scdr 4);
 layout!(Sci, 2, 34; sccr0 0, sccr1 2, prescaler 4, status 6, receiver 10, transmitter 28);
-layout!(Registers, 2, 8; spcr0 0, spcr1 2, spcr2 4, spcr3 6);
+layout!(Registers, 2, 8; spcr3 0, spcr0 2, spcr1 4, spcr2 6);
 layout!(SpsrFlags, 1, 3; spif 0, modf 1, halta 2);
 layout!(Spsr, 1, 7; flags 0, seen 3, cptqp 6);
 layout!(Ram, 2, 80; receive 0, transmit 32, commands 64);

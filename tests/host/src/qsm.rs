@@ -66,10 +66,10 @@ c_struct!(Sci {
 });
 
 c_struct!(Registers {
+    spcr3: u8,
     spcr0: u16,
     spcr1: u16,
     spcr2: u16,
-    spcr3: u8,
 });
 
 c_struct!(SpsrFlags {
