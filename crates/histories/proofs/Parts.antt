@@ -116,11 +116,10 @@ rate-unless (Queue w) v upper lower s h = refl
 rate-unless Hole v upper lower s h = refl
 
 rate-once : (at : ℕ) → isSccr0 (decode at) ≡ true → isSccr0 (decode (next at)) ≡ false
-unfolding decode
 rate-once at e =
-    let four : at / 2 ≡ 4 = placed (at / 2) .sccr0 e in
+    let four : at / 2 ≡ 4 = placed at .sccr0 e in
     refuted (isSccr0 (decode (next at)))
-    (λ g. let again : (at + 2) % 65536 / 2 ≡ 4 = placed ((at + 2) % 65536 / 2) .sccr0 g in omega (arith, four, again))
+    (λ g. let again : (at + 2) % 65536 / 2 ≡ 4 = placed (next at) .sccr0 g in omega (arith, four, again))
 
 pub rate-part : Part isSccr0 (λ (s : Sci). s .sccr0)
 unfolding step
@@ -128,11 +127,10 @@ rate-part = record { unless = rate-unless; once = rate-once; read = λ scsr scdr
 
 -- SCCR1: the settings and RE in it, and RWU.
 control-once : (at : ℕ) → isSccr1 (decode at) ≡ true → isSccr1 (decode (next at)) ≡ false
-unfolding decode
 control-once at e =
-    let five : at / 2 ≡ 5 = placed (at / 2) .sccr1 e in
+    let five : at / 2 ≡ 5 = placed at .sccr1 e in
     refuted (isSccr1 (decode (next at)))
-    (λ g. let again : (at + 2) % 65536 / 2 ≡ 5 = placed ((at + 2) % 65536 / 2) .sccr1 g in omega (arith, five, again))
+    (λ g. let again : (at + 2) % 65536 / 2 ≡ 5 = placed (next at) .sccr1 g in omega (arith, five, again))
 
 control-part : {B : Type 0} (part : ℕ → B) → Part isSccr1 (λ (s : Sci). part (s .sccr1))
 unfolding step
