@@ -96,13 +96,14 @@ struct qsm_framer {
     uint8_t left;  /* data bits left, this one included; 0 in the stop bit */
     uint8_t rt;    /* last RT taken of this bit */
     bool first, second; /* samples of the vote */
-    bool noise;
+    uint8_t noise; /* its noise figure so far */
     uint16_t shift;
 };
 
 struct qsm_receiver {
     struct qsm_framer framer;
     uint16_t scdr; /* SCDR as it is read */
+    uint8_t noise; /* the noise figure of the word in it */
     bool since;    /* a frame has entered SCDR since the idle count was last full */
     bool last1, last2, last3; /* the last samples, latest first */
     uint8_t idle; /* samples of one in a row */
@@ -207,6 +208,13 @@ struct qsm_answer qsm_read(struct qsm *m, bool supervisor, uint8_t width, uint16
 struct qsm_answer qsm_write(struct qsm *m, bool supervisor, uint8_t width, uint16_t offset, uint32_t value);
 
 /*
+ * The noise figure of the word in SCDR, 0 after a reset: the samples that disagreed in its votes, and the ones at RT3, RT5 and RT7 to RT10 of
+ * its start bit. It stays until the next word enters SCDR, also once the word is read; a lost character doesn't change it. The module is only
+ * looked at.
+ */
+uint8_t qsm_noise(const struct qsm *m);
+
+/*
  * Plays the records of a trace from the state `m` on and writes their answers, 10 bytes each, to the front of the log. It stops before a
  * record that it can't answer: what was answered before stands, and the log's bytes past the answers are unchanged.
  */
@@ -233,13 +241,14 @@ QSM_STRUCT(qsm_status, 2, 4); QSM_AT(qsm_status, flags, 0, 2); QSM_AT(qsm_status
 QSM_STRUCT(qsm_framer, 2, 10); QSM_AT(qsm_framer, framing, 0, 1); QSM_AT(qsm_framer, starting, 1, 1);
 QSM_AT(qsm_framer, left, 2, 1); QSM_AT(qsm_framer, rt, 3, 1); QSM_AT(qsm_framer, first, 4, 1); QSM_AT(qsm_framer, second, 5, 1);
 QSM_AT(qsm_framer, noise, 6, 1); QSM_AT(qsm_framer, shift, 8, 2);
-QSM_STRUCT(qsm_receiver, 2, 18); QSM_AT(qsm_receiver, framer, 0, 10); QSM_AT(qsm_receiver, scdr, 10, 2);
-QSM_AT(qsm_receiver, since, 12, 1); QSM_AT(qsm_receiver, last1, 13, 1); QSM_AT(qsm_receiver, last2, 14, 1);
-QSM_AT(qsm_receiver, last3, 15, 1); QSM_AT(qsm_receiver, idle, 16, 1); QSM_AT(qsm_receiver, asleep, 17, 1);
+QSM_STRUCT(qsm_receiver, 2, 20); QSM_AT(qsm_receiver, framer, 0, 10); QSM_AT(qsm_receiver, scdr, 10, 2);
+QSM_AT(qsm_receiver, noise, 12, 1); QSM_AT(qsm_receiver, since, 13, 1); QSM_AT(qsm_receiver, last1, 14, 1);
+QSM_AT(qsm_receiver, last2, 15, 1); QSM_AT(qsm_receiver, last3, 16, 1); QSM_AT(qsm_receiver, idle, 17, 1);
+QSM_AT(qsm_receiver, asleep, 18, 1);
 QSM_STRUCT(qsm_transmitter, 2, 6); QSM_AT(qsm_transmitter, preamble, 0, 1); QSM_AT(qsm_transmitter, left, 1, 1);
 QSM_AT(qsm_transmitter, shift, 2, 2); QSM_AT(qsm_transmitter, scdr, 4, 2);
-QSM_STRUCT(qsm_sci, 2, 34); QSM_AT(qsm_sci, sccr0, 0, 2); QSM_AT(qsm_sci, sccr1, 2, 2); QSM_AT(qsm_sci, prescaler, 4, 2);
-QSM_AT(qsm_sci, status, 6, 4); QSM_AT(qsm_sci, receiver, 10, 18); QSM_AT(qsm_sci, transmitter, 28, 6);
+QSM_STRUCT(qsm_sci, 2, 36); QSM_AT(qsm_sci, sccr0, 0, 2); QSM_AT(qsm_sci, sccr1, 2, 2); QSM_AT(qsm_sci, prescaler, 4, 2);
+QSM_AT(qsm_sci, status, 6, 4); QSM_AT(qsm_sci, receiver, 10, 20); QSM_AT(qsm_sci, transmitter, 30, 6);
 QSM_STRUCT(qsm_registers, 2, 8); QSM_AT(qsm_registers, spcr3, 0, 1); QSM_AT(qsm_registers, spcr0, 2, 2);
 QSM_AT(qsm_registers, spcr1, 4, 2); QSM_AT(qsm_registers, spcr2, 6, 2);
 QSM_STRUCT(qsm_spsr_flags, 1, 3); QSM_AT(qsm_spsr_flags, spif, 0, 1); QSM_AT(qsm_spsr_flags, modf, 1, 1);
@@ -252,10 +261,10 @@ QSM_AT(qsm_entry, delaying, 4, 1); QSM_AT(qsm_entry, halted, 5, 1); QSM_AT(qsm_e
 QSM_AT(qsm_entry, mosi, 9, 1); QSM_AT(qsm_entry, collected, 10, 2); QSM_AT(qsm_entry, selecting, 12, 1);
 QSM_STRUCT(qsm_qspi, 2, 114); QSM_AT(qsm_qspi, registers, 0, 8); QSM_AT(qsm_qspi, spsr, 8, 7); QSM_AT(qsm_qspi, ram, 16, 80);
 QSM_AT(qsm_qspi, next, 96, 4); QSM_AT(qsm_qspi, entry, 100, 14);
-QSM_STRUCT(qsm, 2, 156); QSM_AT(qsm, sci, 0, 34); QSM_AT(qsm, qspi, 34, 114); QSM_AT(qsm, qsmcr, 148, 2);
-QSM_AT(qsm, qilr, 150, 1); QSM_AT(qsm, qivr, 151, 1); QSM_AT(qsm, portqs, 152, 1); QSM_AT(qsm, pqspar, 153, 1);
-QSM_AT(qsm, ddrqs, 154, 1); QSM_AT(qsm, inputs, 155, 1);
-QSM_STRUCT(qsm_played, 8, 184); QSM_AT(qsm_played, state, 0, 156); QSM_AT(qsm_played, read, 160, 8);
+QSM_STRUCT(qsm, 2, 158); QSM_AT(qsm, sci, 0, 36); QSM_AT(qsm, qspi, 36, 114); QSM_AT(qsm, qsmcr, 150, 2);
+QSM_AT(qsm, qilr, 152, 1); QSM_AT(qsm, qivr, 153, 1); QSM_AT(qsm, portqs, 154, 1); QSM_AT(qsm, pqspar, 155, 1);
+QSM_AT(qsm, ddrqs, 156, 1); QSM_AT(qsm, inputs, 157, 1);
+QSM_STRUCT(qsm_played, 8, 184); QSM_AT(qsm_played, state, 0, 158); QSM_AT(qsm_played, read, 160, 8);
 QSM_AT(qsm_played, written, 168, 8); QSM_AT(qsm_played, stop, 176, 1);
 #undef QSM_AT
 #undef QSM_STRUCT

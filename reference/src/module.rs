@@ -80,6 +80,11 @@ impl Module {
         self.answer(0, 0)
     }
 
+    /// The noise figure of the word in SCDR.
+    pub fn noise(&self) -> u8 {
+        self.sci.noise()
+    }
+
     /// Holds pin levels and RXD (nonzero is one) for a number of clocks.
     pub fn hold(&mut self, pins: u8, rxd: u8, clocks: u16) -> Answer {
         self.input = pins;

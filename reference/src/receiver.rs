@@ -4,7 +4,8 @@
 #[derive(Clone, Copy, Debug, PartialEq, Eq)]
 pub struct Frame {
     pub word: u16,
-    pub noise: bool,
+    /// Samples that disagreed in its votes, and ones of its start bit.
+    pub noise: u8,
     pub stop: bool,
 }
 
@@ -28,7 +29,7 @@ pub struct Receiver {
     bit: u16,
     /// Ones among the samples that vote.
     ones: u8,
-    noise: bool,
+    noise: u8,
     word: u16,
     idle_count: u8,
     /// A frame has entered SCDR since the idle count was last full.
@@ -74,7 +75,7 @@ impl Receiver {
         self.rt = 1;
         self.bit = 0;
         self.ones = 0;
-        self.noise = false;
+        self.noise = 0;
         self.word = 0;
         Heard::Start
     }
@@ -88,18 +89,18 @@ impl Receiver {
         }
     }
 
-    /// RT3, RT5, RT7 of the start bit: from two ones on it is given up, one alone marks noise.
+    /// RT3, RT5, RT7 of the start bit: from two ones on it is given up, one alone is noise.
     fn verify_start(&mut self, level: bool) -> Heard {
         self.ones += u8::from(level);
         if self.rt < 7 {
             return Heard::Nothing;
         }
         let ones = std::mem::take(&mut self.ones);
-        self.noise = ones == 1;
         if ones >= 2 {
             self.rt = 0;
             return Heard::Abandoned;
         }
+        self.noise += ones;
         Heard::Nothing
     }
 
@@ -112,10 +113,10 @@ impl Receiver {
         let ones = std::mem::take(&mut self.ones);
         let majority = ones >= 2;
         if self.bit == 0 {
-            self.noise |= ones != 0;
+            self.noise += ones;
             return Heard::Nothing;
         }
-        self.noise |= ones == 1 || ones == 2;
+        self.noise += ones.min(3 - ones);
         if self.bit <= data_bits {
             self.word |= u16::from(majority) << (self.bit - 1);
             return Heard::Nothing;

@@ -11,8 +11,9 @@ pub struct Sci {
     sccr0: u16,
     sccr1: u16,
     scsr: Flags,
-    /// The read side of SCDR.
+    /// The read side of SCDR, and the noise figure of its word.
     received: u16,
+    noise: u8,
     /// Clocks since the last sample or the restart.
     prescaler: u16,
     transmitter: Transmitter,
@@ -26,6 +27,7 @@ impl Sci {
             sccr1: 0,
             scsr: Flags::new(TDRE | TC),
             received: 0,
+            noise: 0,
             prescaler: 0,
             transmitter: Transmitter::default(),
             receiver: Receiver::default(),
@@ -35,6 +37,11 @@ impl Sci {
     /// The level of TXD, if the SCI drives it.
     pub fn txd(&self) -> Option<bool> {
         (self.has(TE) || self.transmitter.busy()).then(|| self.transmitter.level())
+    }
+
+    /// The noise figure of the word in SCDR.
+    pub fn noise(&self) -> u8 {
+        self.noise
     }
 
     pub fn asks(&self) -> bool {
@@ -186,9 +193,10 @@ impl Sci {
             return;
         }
         self.received = frame.word;
+        self.noise = frame.noise;
         self.receiver.frame_since_idle = true;
         self.scsr.rise(RDRF);
-        if frame.noise {
+        if frame.noise > 0 {
             self.scsr.rise(NF);
         }
         if !frame.stop {

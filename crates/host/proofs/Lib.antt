@@ -3,3 +3,4 @@ pub mod Block
 pub mod Events
 pub mod Shape
 pub mod Entry
+pub mod Look

@@ -1,4 +1,4 @@
-// A module that a host keeps and changes in place: each entry copies the state, calls the step by value and stores the result.
+// A module that a host keeps and changes in place: each entry copies the state, calls the step by value and stores the result. `noise` only looks.
 ghost use mathlib.Core.Path.{_≡_};
 ghost use Rattle.qsm.specs.Event.{answered, resets};
 ghost use Rattle.qsm.specs.declared.event.Event.the-variants.{Reset, Hold};
@@ -65,4 +65,13 @@ pub fn write(m: &mut Module, supervisor: bool, width: u8, offset: u16, value: u3
     let r = qsm::event::write(s, supervisor, width, offset, value);
     *m = r.state;
     r.answer
+}
+
+// The noise figure of the word in SCDR, of a module that is only looked at.
+// Ruled out: that of the frame under way; one for any figure above 0.
+pub fn noise(m: &Module) -> u8
+    ensures { λ r. ⌜ r ≡ now (m .entry) .sci .receiver .noise ⌝ }
+{
+    let s = *m;
+    s.noise()
 }

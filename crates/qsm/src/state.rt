@@ -35,4 +35,13 @@ impl Module {
             inputs: 0,
         }
     }
+
+    // The noise figure of the word in SCDR.
+    // Ruled out: that of the frame under way; one for any figure above 0.
+    pub fn noise(self) -> u8
+        ensures { λ r. ⌜ r ≡ self .sci .receiver .noise ⌝ }
+    {
+        let sci = self.sci;
+        sci.noise()
+    }
 }

@@ -77,6 +77,16 @@ pub extern "C" fn qsm_write(
     r.answer
 }
 
+// The noise figure of the word in SCDR, of a module that is only looked at.
+// Ruled out: that of the frame under way; one for any figure above 0.
+#[no_mangle]
+pub extern "C" fn qsm_noise(m: &Module) -> u8
+    ensures { λ r. ⌜ r ≡ now (m .entry) .sci .receiver .noise ⌝ }
+{
+    let s = *m;
+    s.noise()
+}
+
 // A trace, played on m into a log.
 // Ruled out: bytes read that count the record refused; a log changed past its answers.
 #[no_mangle]

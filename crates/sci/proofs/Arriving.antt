@@ -18,7 +18,8 @@ use Rattle.sci.specs.declared.framer.Framer.{Framer}
 use Rattle.sci.specs.declared.status.Status.{Status}
 use Rattle.sci.specs.declared.receiver.Received.{Received}
 use Rattle.sci.proofs.Flagged.{isSet, has-flag}
-use Rattle.sci.proofs.Heard.{at-end, bitAt}
+use Rattle.sci.proofs.Walk.{bitAt}
+use Rattle.sci.proofs.Heard.{at-end}
 use Rattle.sci.proofs.Sending.{stretched-at}
 use Rattle.sci.proofs.Samples.{stays-awake, count-up, not-reached, entered-word, entered-flags, idles}
 use Rattle.sci.proofs.Stages.{Clean, free}
@@ -40,7 +41,7 @@ stop-level g bits i h =
 
 module _ (c g : ℕ) (bits : List Bool) (sized : bitsOf (M c) ≡ length bits) (p : Received)
     (h : Going (bitsOf (M c)) g (lineOf g bits) (g + endSample (bitsOf (M c))) free p) where
-  stands : p .receiver .framer ≡ bitAt 0 9 true true (value bits)
+  stands : p .receiver .framer ≡ bitAt 0 9 true true 0 (value bits)
   stands = h .hearing .framer ∙ after-ones (bitsOf (M c)) g bits (endSample (bitsOf (M c))) ∙ at-end (bitsOf (M c)) bits sized
 
   empty : full (p .status) ≡ false
@@ -50,7 +51,7 @@ module _ (c g : ℕ) (bits : List Bool) (sized : bitsOf (M c) ≡ length bits) (
     abbrev pub p′ : Received
     p′ = received (p .receiver) (p .status) c x
 
-    brings : frameOf (p .receiver .framer) x ≡ record { word = value bits; noise = false; stop = true }
+    brings : frameOf (p .receiver .framer) x ≡ record { word = value bits; noise = 0; stop = true }
     brings = ap₂ (λ (f : Framer) (b : Bool). frameOf f b) stands one
 
     flags : (k : ℕ) → bit k 32 ≡ false → idles (p .receiver) (p .status) c x && bit k 16 ≡ false →

@@ -37,6 +37,7 @@ listening =
       since = false;
       asleep = false;
       scdr = 0;
+      noise = 0;
     }
 
 abbrev at : ℕ → ℕ → ℕ → Sci

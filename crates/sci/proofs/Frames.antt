@@ -3,10 +3,10 @@ use mathlib.Core.Path.{_≡_, refl}
 use mathlib.Core.Bool.{Bool, true, false, cond, not, _&&_, _||_, true≢false, false≢true}
 use Prim.Native.Nat.{ℕ, suc, _+_, _-_, _*_, _%_, _≤_, _<_}
 use native.Mathlib.Omega.{arith}
-use lib.Dec.{eqb}
+use lib.Dec.{eqb, leb}
 use borrow.Author.Tests.{eqb-true, eqb-false}
-use Rattle.sci.specs.Bits.{vote}
-use Rattle.sci.specs.Framer.{searching, ends, searched, judged, startBit, dataBit, stopBit, inBit, framed}
+use Rattle.sci.specs.Bits.{vote, onesOf}
+use Rattle.sci.specs.Framer.{more, searching, ends, searched, judged, startBit, dataBit, stopBit, inBit, framed}
 use Rattle.sci.specs.Sound.{span, togo, Fits}
 use Rattle.sci.specs.declared.framer.Framer.{Framer}
 
@@ -20,7 +20,7 @@ pub record Moved (n : ℕ) (f : Framer) (x : Bool) (g : Framer) : Type 0 where
   pub onward : x ≡ true → 0 < togo n g → suc (togo n g) ≡ togo n f
   pub over : ends f ≡ true → (togo n f ≡ 1) × (togo n g ≡ 0)
 
-abbrev at : Bool → Bool → ℕ → ℕ → Bool → Bool → Bool → ℕ → Framer
+abbrev at : Bool → Bool → ℕ → ℕ → Bool → Bool → ℕ → ℕ → Framer
 at framing starting left rt first second noise shift =
     record {
       framing = framing;
@@ -38,22 +38,22 @@ fits-searching n =
     record { rests = λ e. refl; early = λ e h. absurd (false≢true e); late = λ e h. absurd (false≢true e) }
 
 -- A frame that runs, in its start bit and past it.
-fits-early : (n rt : ℕ) (first second noise : Bool) (shift : ℕ) → 0 < rt → rt < 16 →
+fits-early : (n rt : ℕ) (first second : Bool) (noise shift : ℕ) → 0 < rt → rt < 16 →
     Fits n (at true true n rt first second noise shift)
 fits-early n rt first second noise shift g h =
     record { rests = λ e. absurd (true≢false e); early = λ e k. (g, h, refl); late = λ e k. absurd (true≢false k) }
 
-fits-late : (n left rt : ℕ) (first second noise : Bool) (shift : ℕ) → rt % 16 < 16 * left + 10 → left ≤ n →
+fits-late : (n left rt : ℕ) (first second : Bool) (noise shift : ℕ) → rt % 16 < 16 * left + 10 → left ≤ n →
     Fits n (at true false left rt first second noise shift)
 fits-late n left rt first second noise shift g h =
     record { rests = λ e. absurd (true≢false e); early = λ e k. absurd (false≢true k); late = λ e k. (g, h) }
 
-module _ (n rt : ℕ) (first second noise : Bool) (shift : ℕ) (x : Bool) (g : 0 < rt) (h : rt < 16) where
+module _ (n rt : ℕ) (first second : Bool) (noise shift : ℕ) (x : Bool) (g : 0 < rt) (h : rt < 16) where
   abbrev start : Framer
   start = at true true n rt first second noise shift
 
   -- The next sample of the start bit.
-  start-on : (first′ second′ noise′ : Bool) → (rt % 16 + 1 ≡ 16 → ⊥) →
+  start-on : (first′ second′ : Bool) (noise′ : ℕ) → (rt % 16 + 1 ≡ 16 → ⊥) →
       Moved n start x (at true true n (rt % 16 + 1) first′ second′ noise′ shift)
   start-on first′ second′ noise′ e =
       record {
@@ -62,12 +62,12 @@ module _ (n rt : ℕ) (first second noise : Bool) (shift : ℕ) (x : Bool) (g : 
         over = λ k. absurd (false≢true k);
       }
 
-  start-judged : (b one : Bool) → rt % 16 + 1 ≡ 7 → Moved n start x (judged b start one)
-  start-judged true one e =
+  start-judged : (b : Bool) (ones : ℕ) → rt % 16 + 1 ≡ 7 → Moved n start x (judged b start ones)
+  start-judged true ones e =
       record { fits = fits-searching n; onward = λ k z. absurd (omega arith); over = λ k. absurd (false≢true k) }
-  start-judged false one e =
+  start-judged false ones e =
       record {
-        fits = fits-early n 7 first second (noise || one) shift (omega arith) (omega arith);
+        fits = fits-early n 7 first second (more noise ones) shift (omega arith) (omega arith);
         onward = λ k z. omega arith;
         over = λ k. absurd (false≢true k);
       }
@@ -88,17 +88,19 @@ module _ (n rt : ℕ) (first second noise : Bool) (shift : ℕ) (x : Bool) (g : 
       (λ e₁. by-cond (Moved n start x) (eqb (rt % 16 + 1) 5)
       (λ e. start-on first x noise (omega (arith, eqb-true (rt % 16 + 1) 5 e)))
       (λ e₂. by-cond (Moved n start x) (eqb (rt % 16 + 1) 7)
-      (λ e. start-judged (vote first second x) (first || second || x) (eqb-true _ _ e))
+      (λ e. start-judged (vote first second x .bit) (onesOf first second x) (eqb-true _ _ e))
       (λ e₃. by-cond (Moved n start x) (eqb (rt % 16 + 1) 16)
       (λ e. start-over (eqb-true _ _ e))
-      (λ e. start-on first second _ (eqb-false _ _ e)))))
+      (λ e. by-cond (Moved n start x) (leb 8 (rt % 16 + 1) && leb (rt % 16 + 1) 10)
+      (λ v. start-on first second _ (eqb-false _ _ e))
+      (λ v. start-on first second noise (eqb-false _ _ e))))))
 
-module _ (n left rt : ℕ) (first second noise : Bool) (shift : ℕ) (x : Bool) (h : left ≤ n) where
+module _ (n left rt : ℕ) (first second : Bool) (noise shift : ℕ) (x : Bool) (h : left ≤ n) where
   abbrev late : Framer
   late = at true false left rt first second noise shift
 
   -- The next sample of a data bit, or of the stop bit before its RT10.
-  late-on : (first′ second′ noise′ : Bool) (shift′ : ℕ) → rt % 16 + 1 < 16 → rt % 16 + 1 < 16 * left + 10 →
+  late-on : (first′ second′ : Bool) (noise′ shift′ : ℕ) → rt % 16 + 1 < 16 → rt % 16 + 1 < 16 * left + 10 →
       Moved n late x (at true false left (rt % 16 + 1) first′ second′ noise′ shift′)
   late-on first′ second′ noise′ shift′ g k =
       record {
@@ -168,7 +170,7 @@ search-moved : (n : ℕ) (three x : Bool) (f : Framer) → f .framing ≡ false 
     Moved n f x (searched (three && not x) f n)
 search-moved n true false f e i =
     record {
-      fits = fits-early n 1 false false false 0 (omega arith) (omega arith);
+      fits = fits-early n 1 false false 0 0 (omega arith) (omega arith);
       onward = λ k z. absurd (false≢true k);
       over = λ k. absurd (false≢true (rw e at k));
     }
@@ -185,7 +187,7 @@ search-moved n false x f e i =
       over = λ k. absurd (false≢true (rw e at k));
     }
 
-moved-at : (n : ℕ) (framing starting : Bool) (left rt : ℕ) (first second noise : Bool) (shift : ℕ) (three x : Bool) →
+moved-at : (n : ℕ) (framing starting : Bool) (left rt : ℕ) (first second : Bool) (noise shift : ℕ) (three x : Bool) →
     Fits n (at framing starting left rt first second noise shift) →
     Moved n (at framing starting left rt first second noise shift) x
     (framed n (at framing starting left rt first second noise shift) three x)

@@ -1,120 +1,29 @@
 -- A frame of any number of bits, sample by sample, as a framer that searches after three ones takes it.
--- The sixteen samples of a bit are sixteen steps that compute; the bits go by induction; the shift register with j bits of value v
--- gathered and m to come holds v * 2 ^ m.
+-- The bits go by induction; the shift register with j bits of value v gathered and m to come holds v * 2 ^ m.
 -- Assumes nothing.
 use Prim.Native.Nat.{ℕ, zero, suc, _+_, _*_, _-_, _%_, _^_, _<_}
 use mathlib.Core.Bool.{Bool, true, false, _&&_}
 use mathlib.Core.List.{List, [], _∷_, _++_, append-assoc}
 use mathlib.Core.Path.{_≡_, refl, ap, ap₂, sym, subst, _∙_}
 use native.Mathlib.Omega.{arith}
-use lib.Dec.{eqb, eqb·suc-zero}
 use lib.ListN.{replicate, length, take, getD, length-append, List·getD-append}
 use lib.Seq.{take-append-le, take-length}
 use lib.Bits.{shifted-half}
 use lib.Pow.{pow-add}
 use native.Mathlib.Nat.{pow-suc}
 use Rattle.steps.specs.Bits.{digit}
-use Rattle.sci.specs.Framer.{searching, begun, ends, collected, startBit, dataBit, stopBit, framed}
+use Rattle.sci.specs.Framer.{searching, begun, ends, collected, framed}
 use Rattle.sci.specs.Levels.{value, stretched, frameLevels, endSample, framerAfter}
 use Rattle.sci.specs.declared.framer.Framer.{Framer}
+use Rattle.sci.proofs.Walk.{Walk, here, on, bitAt, walk-start, walk-bit, walk-stop, along}
 
--- Samples that lead a framer from f to g inside a frame, none of them the frame's last.
-data Walk (n : ℕ) : List Bool → Framer → Framer → Type 0 where
-  here : {f : Framer} → Walk n [] f f
-  on : {f g : Framer} {x : Bool} {xs : List Bool} (next : Framer) → f .framing ≡ true → ends f ≡ false →
-      ((three : Bool) → framed n f three x ≡ next) → Walk n xs next g → Walk n (x ∷ xs) f g
-
--- Inside a bit: the start bit, a data bit with m to come after it, the stop bit.
-abbrev inStart : ℕ → ℕ → Framer
-inStart n rt =
-    record { framing = true; starting = true; left = n; rt = rt; first = false; second = false; noise = false; shift = 0 }
-
-abbrev pub bitAt : ℕ → ℕ → Bool → Bool → ℕ → Framer
-bitAt m rt a c s =
-    record { framing = true; starting = false; left = m; rt = rt; first = a; second = c; noise = false; shift = s }
-
-start-step : {n : ℕ} {xs : List Bool} {g : Framer} (rt : ℕ) (next : Framer) →
-    startBit (inStart n rt) (rt % 16 + 1) false ≡ next → Walk n xs next g → Walk n (false ∷ xs) (inStart n rt) g
-unfolding framed
-start-step rt next e w = on next refl refl (λ three. e) w
-
-data-step : {n : ℕ} {xs : List Bool} {g : Framer} {x : Bool} (m rt : ℕ) (a c : Bool) (s : ℕ) (next : Framer) →
-    dataBit n (bitAt (suc m) rt a c s) (rt % 16 + 1) x ≡ next → Walk n xs next g → Walk n (x ∷ xs) (bitAt (suc m) rt a c s) g
-unfolding framed
-data-step {x = x} m rt a c s next e w =
-    on {f = bitAt (suc m) rt a c s} {x = x} next refl (rw (eqb·suc-zero m)) (λ three. rw (eqb·suc-zero m) e) w
-
-stop-step : {n : ℕ} {xs : List Bool} {g : Framer} {x : Bool} (rt : ℕ) (a c : Bool) (s : ℕ) (next : Framer) →
-    eqb rt 9 ≡ false → stopBit (bitAt 0 rt a c s) (rt % 16 + 1) x ≡ next → Walk n xs next g →
-    Walk n (x ∷ xs) (bitAt 0 rt a c s) g
-unfolding framed
-stop-step rt a c s next h e w = on next refl h (λ three. e) w
-
--- Sixteen samples of zero from RT1 of the start bit's first.
-walk-start : {g : Framer} (n : ℕ) (xs : List Bool) → Walk n xs (bitAt n 16 false false 0) g →
-    Walk n (replicate 15 false ++ xs) (begun n) g
-unfolding startBit
-walk-start n xs w =
-    start-step 1 (inStart n 2) refl
-    (start-step 2 (inStart n 3) refl
-    (start-step 3 (inStart n 4) refl
-    (start-step 4 (inStart n 5) refl
-    (start-step 5 (inStart n 6) refl
-    (start-step 6 (inStart n 7) refl
-    (start-step 7 (inStart n 8) refl
-    (start-step 8 (inStart n 9) refl
-    (start-step 9 (inStart n 10) refl
-    (start-step 10 (inStart n 11) refl
-    (start-step 11 (inStart n 12) refl
-    (start-step 12 (inStart n 13) refl
-    (start-step 13 (inStart n 14) refl
-    (start-step 14 (inStart n 15) refl
-    (start-step 15 (bitAt n 16 false false 0) refl
-    w))))))))))))))
-
--- RT10: three equal samples agree.
-agree : (n m : ℕ) (b : Bool) (s : ℕ) → dataBit n (bitAt (suc m) 9 b b s) 10 b ≡ bitAt (suc m) 10 b b (collected b n s)
-unfolding dataBit
-agree n m true s = refl
-agree n m false s = refl
-
--- Sixteen equal samples are one bit.
-walk-bit : {g : Framer} (n m : ℕ) (b a c : Bool) (s : ℕ) (xs : List Bool) →
-    Walk n xs (bitAt (suc m - 1) 16 b b (collected b n s)) g → Walk n (replicate 16 b ++ xs) (bitAt (suc m) 16 a c s) g
-unfolding dataBit
-walk-bit n m b a c s xs w =
-    data-step m 16 a c s (bitAt (suc m) 1 a c s) refl
-    (data-step m 1 a c s (bitAt (suc m) 2 a c s) refl
-    (data-step m 2 a c s (bitAt (suc m) 3 a c s) refl
-    (data-step m 3 a c s (bitAt (suc m) 4 a c s) refl
-    (data-step m 4 a c s (bitAt (suc m) 5 a c s) refl
-    (data-step m 5 a c s (bitAt (suc m) 6 a c s) refl
-    (data-step m 6 a c s (bitAt (suc m) 7 a c s) refl
-    (data-step m 7 a c s (bitAt (suc m) 8 b c s) refl
-    (data-step m 8 b c s (bitAt (suc m) 9 b b s) refl
-    (data-step m 9 b b s (bitAt (suc m) 10 b b (collected b n s)) (agree n m b s)
-    (data-step m 10 b b (collected b n s) (bitAt (suc m) 11 b b (collected b n s)) refl
-    (data-step m 11 b b (collected b n s) (bitAt (suc m) 12 b b (collected b n s)) refl
-    (data-step m 12 b b (collected b n s) (bitAt (suc m) 13 b b (collected b n s)) refl
-    (data-step m 13 b b (collected b n s) (bitAt (suc m) 14 b b (collected b n s)) refl
-    (data-step m 14 b b (collected b n s) (bitAt (suc m) 15 b b (collected b n s)) refl
-    (data-step m 15 b b (collected b n s) (bitAt (suc m - 1) 16 b b (collected b n s)) refl
-    w)))))))))))))))
-
--- Nine samples of the stop bit; the tenth is the frame's last.
-walk-stop : (n : ℕ) (a c : Bool) (s : ℕ) → Walk n (replicate 9 true) (bitAt 0 16 a c s) (bitAt 0 9 true true s)
-unfolding stopBit
-walk-stop n a c s =
-    stop-step 16 a c s (bitAt 0 1 a c s) refl refl
-    (stop-step 1 a c s (bitAt 0 2 a c s) refl refl
-    (stop-step 2 a c s (bitAt 0 3 a c s) refl refl
-    (stop-step 3 a c s (bitAt 0 4 a c s) refl refl
-    (stop-step 4 a c s (bitAt 0 5 a c s) refl refl
-    (stop-step 5 a c s (bitAt 0 6 a c s) refl refl
-    (stop-step 6 a c s (bitAt 0 7 a c s) refl refl
-    (stop-step 7 a c s (bitAt 0 8 true c s) refl refl
-    (stop-step 8 true c s (bitAt 0 9 true true s) refl refl
-    here))))))))
+-- Sixteen equal samples are one bit, with no noise.
+walk-equal : {g : Framer} (n m : ℕ) (b a c : Bool) (s : ℕ) (xs : List Bool) →
+    Walk n xs (bitAt (suc m - 1) 16 b b 0 (collected b n s)) g → Walk n (replicate 16 b ++ xs) (bitAt (suc m) 16 a c 0 s) g
+walk-equal n m true a c s xs w =
+    walk-bit n m a c 0 s true true true true true true true true true true true true true true true true xs w
+walk-equal n m false a c s xs w =
+    walk-bit n m a c 0 s false false false false false false false false false false false false false false false false xs w
 
 -- The shift register after bits that come in at its top.
 gathered : ℕ → ℕ → List Bool → ℕ
@@ -125,12 +34,12 @@ suc-less : (m : ℕ) → suc m - 1 ≡ m
 suc-less m = omega arith
 
 walk-bits : (n : ℕ) (bits : List Bool) (a c : Bool) (s : ℕ) →
-    Walk n (stretched bits ++ replicate 9 true) (bitAt (length bits) 16 a c s) (bitAt 0 9 true true (gathered n s bits))
+    Walk n (stretched bits ++ replicate 9 true) (bitAt (length bits) 16 a c 0 s) (bitAt 0 9 true true 0 (gathered n s bits))
 unfolding gathered stretched
-walk-bits n [] a c s = walk-stop n a c s
+walk-bits n [] a c s = walk-stop n a c 0 s true true true true true true true true true
 walk-bits n (b ∷ bits) a c s =
     rw append-assoc
-    (walk-bit n (length bits) b a c s (stretched bits ++ replicate 9 true)
+    (walk-equal n (length bits) b a c s (stretched bits ++ replicate 9 true)
     (rw (suc-less (length bits)) (walk-bits n bits b b (collected b n s))))
 
 -- With j bits gathered, of value v, and m to come.
@@ -177,12 +86,6 @@ levels bits =
 until-length : (bits : List Bool) → length (untilEnd bits) ≡ endSample (length bits)
 until-length bits = rw (length-append (stretched bits) (replicate 9 true), stretched-length bits) (omega arith)
 
--- A walk is what the framer does, whatever the three samples before.
-along : {n : ℕ} {xs : List Bool} {f g : Framer} (a b c : Bool) → Walk n xs f g → framerAfter n a b c f xs ≡ g
-unfolding framerAfter
-along a b c here = refl
-along {n} a b c (on {x = x} next h q e w) = rw (e (a && b && c)) (along x a b w)
-
 -- After k samples of a walk.
 record Underway (n : ℕ) (xs : List Bool) (k : ℕ) (f g : Framer) : Type 0 where
   quiet : ends f ≡ false
@@ -205,14 +108,14 @@ underway {n} a b c (suc k) (on {f = f} {x = x} {xs = xs} next r q e w) h =
 
 -- The walk of a whole frame after its first sample.
 frame-walk : (n : ℕ) (bits : List Bool) → n ≡ length bits →
-    Walk n (replicate 15 false ++ (stretched bits ++ replicate 9 true)) (begun n) (bitAt 0 9 true true (value bits))
+    Walk n (replicate 15 false ++ (stretched bits ++ replicate 9 true)) (begun n) (bitAt 0 9 true true 0 (value bits))
 frame-walk n bits e =
-    walk-start n (stretched bits ++ replicate 9 true)
+    walk-start n false false false false false false false false false false false false false false false (stretched bits ++ replicate 9 true) refl
     (subst
-    (λ (m : ℕ). Walk n (stretched bits ++ replicate 9 true) (bitAt m 16 false false 0) (bitAt 0 9 true true (value bits)))
+    (λ (m : ℕ). Walk n (stretched bits ++ replicate 9 true) (bitAt m 16 false false 0 0) (bitAt 0 9 true true 0 (value bits)))
     (sym e)
     (subst
-    (λ (v : ℕ). Walk n (stretched bits ++ replicate 9 true) (bitAt (length bits) 16 false false 0) (bitAt 0 9 true true v))
+    (λ (v : ℕ). Walk n (stretched bits ++ replicate 9 true) (bitAt (length bits) 16 false false 0 0) (bitAt 0 9 true true 0 v))
     (gathered-value n bits e)
     (walk-bits n bits false false 0)))
 
@@ -249,7 +152,7 @@ at n bits k e h = subst (λ (l : List Bool). At n l k) (sym (levels bits)) (at-u
 
 -- The sample before the last leaves the stop bit at RT9.
 pub at-end : (n : ℕ) (bits : List Bool) → n ≡ length bits →
-    after n (frameLevels bits) (endSample n) ≡ bitAt 0 9 true true (value bits)
+    after n (frameLevels bits) (endSample n) ≡ bitAt 0 9 true true 0 (value bits)
 unfolding framerAfter framed
 at-end n bits e =
     let l : endSample n ≡ length (untilEnd bits) = ap endSample e ∙ sym (until-length bits) in

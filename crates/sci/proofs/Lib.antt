@@ -1,3 +1,4 @@
+pub mod Votes
 pub mod Membership
 pub mod Flagged
 pub mod Marks
@@ -17,6 +18,7 @@ pub mod Witness
 pub mod History
 pub mod Demand3
 pub mod Lift
+pub mod Walk
 pub mod Heard
 pub mod Samples
 pub mod Sending
@@ -49,3 +51,5 @@ pub mod Starting
 pub mod Lasting
 pub mod SerialClauses
 pub mod Clauses
+pub mod Figure
+pub mod Figures

@@ -1,6 +1,7 @@
 -- Every change of the status keeps this: a receive flag that is marked as seen is set.
 use mathlib.Core.Path.{_≡_, refl, sym, _∙_}
 use mathlib.Core.Bool.{Bool, true, false, not, _&&_, _||_, false≢true}
+use lib.Dec.{ltb}
 use Prim.Native.Nat.{ℕ}
 use Rattle.sci.specs.Flags.{receiveFlags, contains, common}
 use Rattle.sci.specs.Members.{member}
@@ -79,7 +80,7 @@ marked-fallSeen-on s g m =
 marked-raised : (s : Status) (f : Frame) (bad : Bool) → Marked s → Marked (raised s f bad)
 unfolding raised
 marked-raised s f bad m =
-    marked-raiseIf-on bad _ _ (marked-raiseIf-on (not (f .stop)) _ _ (marked-raiseIf-on (f .noise) _ _ (marked-raise-on s _ m)))
+    marked-raiseIf-on bad _ _ (marked-raiseIf-on (not (f .stop)) _ _ (marked-raiseIf-on (ltb 0 (f .noise)) _ _ (marked-raise-on s _ m)))
 
 marked-entered : (b : Bool) (s : Status) (f : Frame) (bad : Bool) → Marked s → Marked (entered b s f bad)
 unfolding entered

@@ -4,7 +4,7 @@ use mathlib.Core.Bool.{Bool, true, false, cond, not, _&&_, _||_, and-false, or-f
 use mathlib.Core.List.{List, [], _∷_, _++_}
 use mathlib.Core.Option.{Option, none, some}
 use Prim.Native.Nat.{ℕ, _%_}
-use lib.Dec.{eqb}
+use lib.Dec.{eqb, ltb}
 use Rattle.steps.specs.Bits.{merge}
 use Rattle.sci.specs.Flags.{PF, FE, NF, OR, RAF, RDRF, receiveFlags, transmitFlags}
 use Rattle.sci.specs.Members.{member}
@@ -76,7 +76,7 @@ tied-fetch s owed opn d =
 or-raised : (s : Status) (f : Frame) (bad : Bool) → isSet 3 (raised s f bad) ≡ isSet 3 s
 unfolding raised member
 or-raised s f bad =
-    raise-keeps 3 bad _ PF refl ∙ raise-keeps 3 (not (f .stop)) _ FE refl ∙ raise-keeps 3 (f .noise) _ NF refl
+    raise-keeps 3 bad _ PF refl ∙ raise-keeps 3 (not (f .stop)) _ FE refl ∙ raise-keeps 3 (ltb 0 (f .noise)) _ NF refl
     ∙ set-raise 3 s RDRF ∙ or-false (isSet 3 s)
 
 or-entered : (b : Bool) (s : Status) (f : Frame) (bad : Bool) → isSet 3 (entered b s f bad) ≡ isSet 3 s
@@ -87,7 +87,7 @@ or-entered false s f bad = refl
 mark-raised : (s : Status) (f : Frame) (bad : Bool) → isMarked 3 (raised s f bad) ≡ isMarked 3 s
 unfolding raised
 mark-raised s f bad =
-    marked-raiseIf 3 bad _ PF ∙ marked-raiseIf 3 (not (f .stop)) _ FE ∙ marked-raiseIf 3 (f .noise) _ NF ∙ marked-raise 3 s RDRF
+    marked-raiseIf 3 bad _ PF ∙ marked-raiseIf 3 (not (f .stop)) _ FE ∙ marked-raiseIf 3 (ltb 0 (f .noise)) _ NF ∙ marked-raise 3 s RDRF
 
 mark-entered : (b : Bool) (s : Status) (f : Frame) (bad : Bool) → isMarked 3 (entered b s f bad) ≡ isMarked 3 s
 unfolding entered

@@ -87,7 +87,7 @@ in-frame : (n : ℕ) (f : Framer) (x : Bool) → busy (f .rt) ≡ false → (sta
     inBit starting stopping n f (nextRt f) x ≡ atRt f (nextRt f)
 unfolding startBit stopBit dataBit
 in-frame n f x e true stopping =
-    rw (not-next (f .rt) e 2 refl, not-next (f .rt) e 4 refl, not-next (f .rt) e 6 refl, not-next (f .rt) e 15 refl, unvoted (f .rt) e, or-false)
+    rw (not-next (f .rt) e 2 refl, not-next (f .rt) e 4 refl, not-next (f .rt) e 6 refl, not-next (f .rt) e 15 refl, unvoted (f .rt) e)
 in-frame n f x e false true =
     rw (not-next (f .rt) e 7 refl, not-next (f .rt) e 8 refl, not-next (f .rt) e 9 refl)
 in-frame n f x e false false =

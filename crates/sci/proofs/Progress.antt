@@ -103,6 +103,7 @@ settled n =
       since = false;
       asleep = false;
       scdr = 0;
+      noise = 0;
     }
 
 pub settles : (n k : ℕ) (p : Received) → Sound n p → Progress n k (p .receiver) → n ≤ 9 → resyncSamples ≤ k →
@@ -128,4 +129,5 @@ settles n k p i g hn hk =
       since = s j;
       asleep = a j;
       scdr = 0;
+      noise = 0;
     }

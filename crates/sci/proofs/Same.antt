@@ -1,6 +1,7 @@
 -- Equal receive flags and marks stay equal, and the flags of the transmitter and RAF are no part of them.
 use mathlib.Core.Path.{_≡_, refl, ap, sym, _∙_}
 use mathlib.Core.Bool.{Bool, true, false, not, _&&_, _||_, true≢false, false≢true}
+use lib.Dec.{ltb}
 use Prim.Native.Nat.{ℕ, _^_}
 use native.Mathlib.Nat.{zero-div}
 use Rattle.sci.specs.Flags.{flag, TC, TDRE, receiveFlags, transmitFlags, common}
@@ -103,7 +104,7 @@ same-fallSeen s t g e =
 same-raised : (s t : Status) (f : Frame) (bad : Bool) → Same s t → Same (raised s f bad) (raised t f bad)
 unfolding raised
 same-raised s t f bad e =
-    same-raiseIf bad _ _ _ (same-raiseIf (not (f .stop)) _ _ _ (same-raiseIf (f .noise) _ _ _ (same-raise s t _ e)))
+    same-raiseIf bad _ _ _ (same-raiseIf (not (f .stop)) _ _ _ (same-raiseIf (ltb 0 (f .noise)) _ _ _ (same-raise s t _ e)))
 
 same-entered : (b : Bool) (s t : Status) (f : Frame) (bad : Bool) → Same s t → Same (entered b s f bad) (entered b t f bad)
 unfolding entered

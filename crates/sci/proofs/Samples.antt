@@ -4,6 +4,7 @@ use Prim.Native.Nat.{ℕ, _+_, _≤_, _<_, min}
 use mathlib.Core.Bool.{Bool, true, false, not, _&&_, _||_, cond, and-false}
 use mathlib.Core.Path.{_≡_, refl, ap, _∙_}
 use native.Mathlib.Omega.{arith}
+use lib.Dec.{ltb}
 use borrow.Author.Tests.{ne-eqb}
 use Rattle.steps.specs.Bits.{bit}
 use Rattle.sci.specs.Flags.{PF, FE, NF, OR, IDLE, RAF, RDRF}
@@ -45,7 +46,7 @@ unfolding entered raiseIf
 none-entered s f bad taken lost t l = rw (t, l)
 
 -- A clean frame enters.
-clean-entered : (k : ℕ) (s : Status) (f : Frame) (bad taken lost : Bool) → taken ≡ true → lost ≡ false → f .noise ≡ false →
+clean-entered : (k : ℕ) (s : Status) (f : Frame) (bad taken lost : Bool) → taken ≡ true → lost ≡ false → f .noise ≡ 0 →
     f .stop ≡ true → bad ≡ false → isSet k (entered (taken && not lost) (raiseIf lost s OR) f bad) ≡ isSet k s || bit k 64
 unfolding entered raiseIf raised member
 clean-entered k s f bad taken lost t l e g b = rw (t, l, e, g, b) (set-raise k s RDRF)
@@ -58,9 +59,9 @@ entered-keeps k false lost s f bad a b c d e = raise-keeps k lost s OR b
 entered-keeps k true lost s f bad a b c d e =
     let s₀ : Status = raiseIf lost s OR in
     let s₁ : Status = raiseIf true s₀ RDRF in
-    let s₂ : Status = raiseIf (f .noise) s₁ NF in
+    let s₂ : Status = raiseIf (ltb 0 (f .noise)) s₁ NF in
     let s₃ : Status = raiseIf (not (f .stop)) s₂ FE in
-    raise-keeps k bad s₃ PF e ∙ raise-keeps k (not (f .stop)) s₂ FE d ∙ raise-keeps k (f .noise) s₁ NF c
+    raise-keeps k bad s₃ PF e ∙ raise-keeps k (not (f .stop)) s₂ FE d ∙ raise-keeps k (ltb 0 (f .noise)) s₁ NF c
     ∙ raise-keeps k true s₀ RDRF a ∙ raise-keeps k lost s OR b
 
 module _ (r : Receiver) (s : Status) (c : ℕ) (x : Bool) where
@@ -143,7 +144,7 @@ module _ (r : Receiver) (s : Status) (c : ℕ) (x : Bool) where
   count-zero e = rw e
 
   -- The last sample of a clean frame.
-  module _ (w : ℕ) (end : ends (r .framer) ≡ true) (clean : frameOf (r .framer) x ≡ record { word = w; noise = false; stop = true })
+  module _ (w : ℕ) (end : ends (r .framer) ≡ true) (clean : frameOf (r .framer) x ≡ record { word = w; noise = 0; stop = true })
       (awake : r .asleep ≡ false) (empty : full s ≡ false) where
     pub entered-word : received r s c x .receiver .scdr ≡ w
     unfolding received receiverAfter

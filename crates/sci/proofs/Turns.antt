@@ -4,9 +4,9 @@ use mathlib.Core.Path.{_≡_, refl, ap, sym, _∙_}
 use mathlib.Core.Bool.{Bool, true, false, not, _&&_, _||_}
 use Prim.Native.Nat.{ℕ, _+_, _%_, _≤_, _<_}
 use native.Mathlib.Omega.{arith}
-use lib.Dec.{eqb}
+use lib.Dec.{eqb, leb}
 use borrow.Author.Tests.{eqb-true, eqb-false, eq-eqb, ne-eqb}
-use Rattle.sci.specs.Bits.{vote}
+use Rattle.sci.specs.Bits.{vote, onesOf}
 use Rattle.sci.specs.Framer.{begins, abandons, ends, searched, judged, startBit, dataBit, stopBit, inBit, nextRt, framed}
 use Rattle.sci.specs.declared.framer.Framer.{Framer}
 use Rattle.sci.proofs.Frames.{by-cond}
@@ -38,21 +38,22 @@ module _ (f : Framer) (x : Bool) (e : f .framing ≡ true) where
   on over g o k l = record { framing = rw (o, k); rt = l }
 
   abbrev abandoning : Bool
-  abandoning = eqb r 7 && vote (f .first) (f .second) x
+  abandoning = eqb r 7 && vote (f .first) (f .second) x .bit
 
   start-goes : Goes abandoning (startBit f r x)
   unfolding startBit
   start-goes =
       by-cond (Goes abandoning) (eqb r 3) (λ u. on abandoning _ (not-at (omega (arith, eqb-true r 3 u))) e (omega arith))
       (λ u₁. by-cond (Goes abandoning) (eqb r 5) (λ u. on abandoning _ (not-at (omega (arith, eqb-true r 5 u))) e (omega arith))
-      (λ u₂. by-cond (Goes abandoning) (eqb r 7) (λ u. rw u (judges (vote (f .first) (f .second) x)))
+      (λ u₂. by-cond (Goes abandoning) (eqb r 7) (λ u. rw u (judges (vote (f .first) (f .second) x .bit)))
       (λ u₃. by-cond (Goes abandoning) (eqb r 16) (λ u. on abandoning _ (not-at (eqb-false r 7 u₃)) e (omega arith))
-      (λ u. on abandoning _ (not-at (eqb-false r 7 u₃)) e (omega arith)))))
+      (λ u. by-cond (Goes abandoning) (leb 8 r && leb r 10) (λ v. on abandoning _ (not-at (eqb-false r 7 u₃)) e (omega arith))
+      (λ v. on abandoning _ (not-at (eqb-false r 7 u₃)) e (omega arith))))))
     where
       not-at : (r ≡ 7 → ⊥) → abandoning ≡ false
-      not-at k = ap (λ (b : Bool). b && vote (f .first) (f .second) x) (ne-eqb r 7 k)
+      not-at k = ap (λ (b : Bool). b && vote (f .first) (f .second) x .bit) (ne-eqb r 7 k)
 
-      judges : (v : Bool) → Goes v (judged v f (f .first || f .second || x))
+      judges : (v : Bool) → Goes v (judged v f (onesOf (f .first) (f .second) x))
       judges true = record { framing = refl; rt = omega arith }
       judges false = on false _ refl e (omega arith)
 
@@ -73,7 +74,7 @@ module _ (f : Framer) (x : Bool) (e : f .framing ≡ true) where
       (λ u₃. by-cond (Goes false) (eqb r 16) (λ u. on false _ refl e (omega arith)) (λ u. on false _ refl e (omega arith)))))
 
 -- In the start bit, and past it.
-early : (f g : Framer) (x over : Bool) → f .framing ≡ true → f .starting ≡ true → eqb (f .rt) 6 && vote (f .first) (f .second) x ≡ over →
+early : (f g : Framer) (x over : Bool) → f .framing ≡ true → f .starting ≡ true → eqb (f .rt) 6 && vote (f .first) (f .second) x .bit ≡ over →
     Goes over g → abandons f x ≡ f .framing && f .starting && not (g .framing)
 early f g x over e s o h = rw (e, s) (o ∙ h .framing)
 
@@ -88,7 +89,7 @@ in-bit n f three x h e true stopping s l =
     let g : Goes _ (startBit f (nextRt f) x) = start-goes f x e in
     record {
       begun = rw e;
-      abandoned = early f _ x _ e s (ap (λ (b : Bool). b && vote (f .first) (f .second) x) (next-is (f .rt) 6 h (omega arith) (omega arith))) g;
+      abandoned = early f _ x _ e s (ap (λ (b : Bool). b && vote (f .first) (f .second) x .bit) (next-is (f .rt) 6 h (omega arith) (omega arith))) g;
       ended = rw (e, s);
       within = g .rt;
     }

@@ -14,8 +14,8 @@ pub record Same (s t : Status) : Type 0 where
   pub flags : shown s ≡ shown t
   pub seen : common (s .seen) receiveFlags ≡ common (t .seen) receiveFlags
 
-abbrev pub withScdr : Receiver → ℕ → Receiver
-withScdr r w =
+abbrev pub withWord : Receiver → ℕ → ℕ → Receiver
+withWord r w noise =
     record {
       framer = r .framer;
       last1 = r .last1;
@@ -25,11 +25,12 @@ withScdr r w =
       since = r .since;
       asleep = r .asleep;
       scdr = w;
+      noise = noise;
     }
 
--- The receiver but for SCDR.
+-- The receiver but for SCDR and its noise figure.
 abbrev pub line : Receiver → Receiver
-line r = withScdr r 0
+line r = withWord r 0 0
 
 pub record Alike (p q : Received) : Type 0 where
   pub lines : line (p .receiver) ≡ line (q .receiver)

@@ -1,19 +1,26 @@
 -- Document 01, Receiver: where the receiver stands in a frame, and what one sample makes of it, for frames of any number n of data bits.
 use mathlib.Core.Bool.{Bool, true, false, cond, not, _&&_, _||_}
-use Prim.Native.Nat.{ℕ, _+_, _-_, _/_, _%_, _^_}
+use Prim.Native.Nat.{ℕ, _+_, _-_, _/_, _%_, _^_, min}
 use lib.Dec.{eqb, leb}
-use Rattle.sci.specs.Bits.{vote, disagree}
+use Rattle.steps.specs.Bits.{digit}
+use Rattle.sci.specs.Bits.{vote, onesOf}
+use Rattle.sci.specs.declared.bits.Voted.{Voted}
 use Rattle.sci.specs.declared.framer.Framer.{Framer}
 use Rattle.sci.specs.declared.framer.Frame.{Frame}
 
+-- A frame carries its noise figure, the sum over its bits so far (document 02, L1). It stops at 255, which no frame's gets to: a start bit
+-- gives at most 4, a vote at most 1.
+abbrev pub more : ℕ → ℕ → ℕ
+more noise by = min 255 (noise + by)
+
 abbrev pub searching : Framer
 searching =
-    record { framing = false; starting = false; left = 0; rt = 0; first = false; second = false; noise = false; shift = 0 }
+    record { framing = false; starting = false; left = 0; rt = 0; first = false; second = false; noise = 0; shift = 0 }
 
 -- RT1 of a start bit.
 abbrev pub begun : ℕ → Framer
 begun n =
-    record { framing = true; starting = true; left = n; rt = 1; first = false; second = false; noise = false; shift = 0 }
+    record { framing = true; starting = true; left = n; rt = 1; first = false; second = false; noise = 0; shift = 0 }
 
 -- A zero is RT1 if the three samples before it are ones.
 abbrev pub begins : Framer → Bool → Bool → Bool
@@ -21,20 +28,17 @@ begins f three x = not (f .framing) && three && not x
 
 -- Two or more ones at RT3, RT5, RT7 abandon the start.
 abbrev pub abandons : Framer → Bool → Bool
-abandons f x = f .framing && f .starting && eqb (f .rt) 6 && vote (f .first) (f .second) x
+abandons f x = f .framing && f .starting && eqb (f .rt) 6 && vote (f .first) (f .second) x .bit
 
 -- The frame ends at the stop bit's RT10.
 abbrev pub ends : Framer → Bool
 ends f = f .framing && not (f .starting) && eqb (f .left) 0 && eqb (f .rt) 9
 
--- What it then brings: its word, whether any bit was noisy, and the stop bit.
+-- What it then brings: its word, the sum over its bits, the stop bit's disagreement with it, and the stop bit.
 abbrev pub frameOf : Framer → Bool → Frame
 frameOf f x =
-    record {
-      word = f .shift;
-      noise = f .noise || disagree (f .first) (f .second) x;
-      stop = vote (f .first) (f .second) x;
-    }
+    let v : Voted = vote (f .first) (f .second) x in
+    record { word = f .shift; noise = more (f .noise) (v .disagreed); stop = v .bit }
 
 abbrev pub searched : Bool → Framer → ℕ → Framer
 searched true f n = begun n
@@ -80,8 +84,8 @@ secondAt f rt x =
       shift = f .shift;
     }
 
-abbrev pub noiseAt : Framer → ℕ → Bool → Framer
-noiseAt f rt x =
+abbrev pub noiseAt : Framer → ℕ → ℕ → Framer
+noiseAt f rt by =
     record {
       framing = f .framing;
       starting = f .starting;
@@ -89,14 +93,14 @@ noiseAt f rt x =
       rt = rt;
       first = f .first;
       second = f .second;
-      noise = f .noise || x;
+      noise = more (f .noise) by;
       shift = f .shift;
     }
 
 -- RT7 of the start bit: a single one of three is noise.
-abbrev pub judged : Bool → Framer → Bool → Framer
-judged true f one = searching
-judged false f one = noiseAt f 7 one
+abbrev pub judged : Bool → Framer → ℕ → Framer
+judged true f ones = searching
+judged false f ones = noiseAt f 7 ones
 
 -- RT16 of the start bit.
 abbrev pub started : Framer → ℕ → Framer
@@ -114,13 +118,13 @@ started f rt =
 
 -- Any one at RT8, RT9, RT10 of the start bit is noise, and the start stands.
 abbrev pub heard : Bool → Framer → ℕ → Bool → Framer
-heard voted f rt x = noiseAt f rt (voted && x)
+heard voted f rt x = cond voted (noiseAt f rt (digit x)) (atRt f rt)
 
 unfoldable pub startBit : Framer → ℕ → Bool → Framer
 startBit f rt x =
     cond (eqb rt 3) (firstAt f rt x)
     (cond (eqb rt 5) (secondAt f rt x)
-    (cond (eqb rt 7) (judged (vote (f .first) (f .second) x) f (f .first || f .second || x))
+    (cond (eqb rt 7) (judged (vote (f .first) (f .second) x .bit) f (onesOf (f .first) (f .second) x))
     (cond (eqb rt 16) (started f rt) (heard (leb 8 rt && leb rt 10) f rt x))))
 
 -- Low bit first: a new bit comes in at the top of n.
@@ -137,8 +141,8 @@ decided n f rt x =
       rt = rt;
       first = f .first;
       second = f .second;
-      noise = f .noise || disagree (f .first) (f .second) x;
-      shift = collected (vote (f .first) (f .second) x) n (f .shift);
+      noise = more (f .noise) (vote (f .first) (f .second) x .disagreed);
+      shift = collected (vote (f .first) (f .second) x .bit) n (f .shift);
     }
 
 -- RT16 of a data bit.

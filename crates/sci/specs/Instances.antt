@@ -24,17 +24,17 @@ clear = record { flags = flag 0; seen = flag 0 }
 -- A receiver after three ones, and one sample of it under SCCR1 as given.
 abbrev receiver : Framer → ℕ → Bool → Receiver
 receiver f idle asleep =
-    record { framer = f; last1 = true; last2 = true; last3 = true; idle = idle; since = true; asleep = asleep; scdr = 0 }
+    record { framer = f; last1 = true; last2 = true; last3 = true; idle = idle; since = true; asleep = asleep; scdr = 0; noise = 0 }
 
 abbrev heard : Receiver → ℕ → Bool → Received
 heard r sccr1 x = received r clear sccr1 x
 
 -- RT6 of a start bit with ones at RT3 and RT5; RT9 of the stop bit of a frame with the word 80 (hexadecimal).
 abbrev starting : Framer
-starting = record { framing = true; starting = true; left = 8; rt = 6; first = true; second = true; noise = false; shift = 0 }
+starting = record { framing = true; starting = true; left = 8; rt = 6; first = true; second = true; noise = 0; shift = 0 }
 
 abbrev stopping : Framer
-stopping = record { framing = true; starting = false; left = 0; rt = 9; first = true; second = true; noise = false; shift = 128 }
+stopping = record { framing = true; starting = false; left = 0; rt = 9; first = true; second = true; noise = 0; shift = 128 }
 
 abbrev begins : Bool
 begins =

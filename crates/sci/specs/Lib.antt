@@ -28,3 +28,4 @@ pub mod TransmitterClauses
 pub mod SerialClauses
 pub mod Instances
 pub mod Clauses
+pub mod Figure

@@ -22,7 +22,7 @@ use Rattle.sci.specs.declared.transmitter.Transmitter.{Transmitter}
 pub record FrameHeard (n : ℕ) (bits : List Bool) : Type 0 where
   pub before : (k : ℕ) → k < endSample n → ends (framerAt n bits k) ≡ false
   pub last : ends (framerAt n bits (endSample n)) ≡ true
-  pub frame : frameOf (framerAt n bits (endSample n)) true ≡ record { word = value bits; noise = false; stop = true }
+  pub frame : frameOf (framerAt n bits (endSample n)) true ≡ record { word = value bits; noise = 0; stop = true }
 
 -- Any number of bits, any bits.
 abbrev pub FramesHeard : Type 0

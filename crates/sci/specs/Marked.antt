@@ -2,7 +2,7 @@
 use mathlib.Core.Bool.{Bool, true, false, cond, not, _&&_}
 use mathlib.Core.List.{List, [], _∷_, _++_}
 use Prim.Native.Nat.{ℕ, _+_, _*_}
-use lib.Dec.{eqb}
+use lib.Dec.{eqb, ltb}
 use lib.ListN.{replicate, take}
 use Rattle.sci.specs.Flags.{OR, IDLE, RDRF}
 use Rattle.sci.specs.Status.{has}
@@ -27,11 +27,11 @@ started s3 s5 s7 =
 
 -- 000: accept clean.
 abbrev pub K1 : Bool
-K1 = started false false false .framing && not (started false false false .noise)
+K1 = started false false false .framing && not (ltb 0 (started false false false .noise))
 
 -- 010: accept noisy.
 abbrev pub K2 : Bool
-K2 = started false true false .framing && started false true false .noise
+K2 = started false true false .framing && ltb 0 (started false true false .noise)
 
 -- 011: abandon.
 abbrev pub K3 : Bool

@@ -39,6 +39,7 @@ passed r n x =
       since = r .since;
       asleep = r .asleep;
       scdr = r .scdr;
+      noise = r .noise;
     }
 
 -- With RE clear the receiver does not sample.

@@ -1,7 +1,7 @@
 -- Document 01, Receiver: what a sample makes happen, and what it leaves. `taken` and `lost` are the paper's words for an ended frame.
 use mathlib.Core.Bool.{Bool, true, false, cond, not, _&&_, _||_}
 use Prim.Native.Nat.{ℕ, _+_, _-_, min}
-use lib.Dec.{eqb}
+use lib.Dec.{eqb, ltb}
 use Rattle.steps.specs.Bits.{bit}
 use Rattle.sci.specs.Flags.{PF, FE, NF, OR, IDLE, RAF, RDRF}
 use Rattle.sci.specs.Status.{has, raise, raiseIf, fallIf}
@@ -26,6 +26,7 @@ startState r =
       since = false;
       asleep = r .asleep;
       scdr = r .scdr;
+      noise = r .noise;
     }
 
 abbrev pub three : Receiver → Bool
@@ -64,9 +65,9 @@ outcome r s sccr1 x =
       reached = counted && reaches r (bitsOf (M sccr1));
     }
 
--- RDRF rises, with NF, FE (stop read as zero), PF (PE and wrong parity).
+-- RDRF rises, with NF (the sum is above 0), FE (stop read as zero), PF (PE and wrong parity).
 unfoldable pub raised : Status → Frame → Bool → Status
-raised s f bad = raiseIf bad (raiseIf (not (f .stop)) (raiseIf (f .noise) (raise s RDRF) NF) FE) PF
+raised s f bad = raiseIf bad (raiseIf (not (f .stop)) (raiseIf (ltb 0 (f .noise)) (raise s RDRF) NF) FE) PF
 
 unfoldable pub entered : Bool → Status → Frame → Bool → Status
 entered enters s f bad = cond enters (raised s f bad) s
@@ -80,7 +81,7 @@ statusAfter s o f bad idles =
     RAF)
     IDLE
 
--- A reached idle line wakes the receiver if WAKE=0. Only a frame that enters SCDR counts as one since.
+-- A reached idle line wakes the receiver if WAKE=0. Only a frame that enters SCDR counts as one since, and leaves its sum beside it.
 unfoldable pub receiverAfter : Receiver → Outcome → ℕ → Bool → Receiver
 receiverAfter r o sccr1 x =
     record {
@@ -92,6 +93,7 @@ receiverAfter r o sccr1 x =
       since = not (o .reached) && (o .taken && not (o .lost) || r .since);
       asleep = r .asleep && not (o .taken) && not (o .reached && not (WAKE sccr1));
       scdr = cond (o .taken && not (o .lost)) (r .framer .shift) (r .scdr);
+      noise = cond (o .taken && not (o .lost)) (frameOf (r .framer) x .noise) (r .noise);
     }
 
 -- One sample: IDLE rises if the receiver was awake and a frame has entered SCDR since the count last got to its limit.

@@ -16,7 +16,7 @@ use Rattle.sci.specs.declared.transmitter.Transmitter.{Transmitter}
 use Rattle.sci.specs.declared.transmitter.Sent.{Sent}
 use Rattle.sci.specs.declared.serial.Sci.{Sci}
 
--- Values after a reset: SCCR0 0004, SCCR1 0000, SCSR 0180, SCDR 0 on both sides; nothing seen.
+-- Values after a reset: SCCR0 0004, SCCR1 0000, SCSR 0180, SCDR 0 on both sides, its noise figure 0; nothing seen.
 abbrev pub resetSci : Sci
 resetSci =
     record {
@@ -34,6 +34,7 @@ resetSci =
             since = false;
             asleep = false;
             scdr = 0;
+            noise = 0;
           };
       transmitter = record { scdr = 0; preamble = false; shift = 0; left = 0 };
     }
@@ -200,6 +201,7 @@ withSleep r asleep =
       since = r .since;
       asleep = asleep;
       scdr = r .scdr;
+      noise = r .noise;
     }
 
 abbrev pub withPreamble : Transmitter → Bool → Transmitter

@@ -1,21 +1,30 @@
 // The leaves on samples and words: the vote over three samples, and parity, which sending and receiving share.
 ghost use mathlib.Core.Path.{_≡_};
-ghost use Rattle.sci.specs.Bits.{vote, disagree, odd, parityBit};
+ghost use Rattle.steps.specs.Bits.{digit};
+ghost use Rattle.sci.specs.Bits.{vote, odd, parityBit};
 
-// The majority of three samples.
-// Ruled out: two zeros and a one read as a one; the last sample alone.
-pub fn vote(a: bool, b: bool, c: bool) -> bool
-    ensures { λ r. ⌜ r ≡ vote a b c ⌝ }
-{
-    (a & b) | (a & c) | (b & c)
+// What a vote over three samples gives: the bit, and how many of them disagreed with it.
+pub struct Voted {
+    pub bit: bool,
+    pub disagreed: u8,
 }
 
-// Whether three samples disagree.
-// Ruled out: a vote that never disagrees; the first two alone compared.
-pub fn disagree(a: bool, b: bool, c: bool) -> bool
-    ensures { λ r. ⌜ r ≡ disagree a b c ⌝ }
+// The majority of three samples, and how many were unlike it: 0 or 1.
+// Ruled out: two zeros and a one read as a one; a vote that never disagrees.
+pub fn vote(a: bool, b: bool, c: bool) -> Voted
+    ensures { λ r. ⌜ r ≡ vote a b c ⌝ }
 {
-    (a | b | c) & !(a & b & c)
+    Voted {
+        bit: (a & b) | (a & c) | (b & c),
+        disagreed: digit((a | b | c) & !(a & b & c)),
+    }
+}
+
+// Ruled out: a one counted as none; any sample counted.
+pub fn digit(b: bool) -> u8
+    ensures { λ r. ⌜ r ≡ digit b ⌝ }
+{
+    if b { 1 } else { 0 }
 }
 
 // Whether a word has an odd number of ones.

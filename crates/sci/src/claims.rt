@@ -8,6 +8,7 @@ ghost use Rattle.sci.specs.Demand2.{Demand2};
 ghost use Rattle.sci.specs.Demand3.{Demand3};
 ghost use Rattle.sci.specs.Witness.{Met};
 ghost use Rattle.sci.specs.Clauses.{Clauses};
+ghost use Rattle.sci.specs.Figure.{Figures};
 
 // The laws of membership of the flag set.
 fn membership() -> bool
@@ -36,6 +37,14 @@ fn demand3() -> bool
 // Ruled out: RAF left set by an abandoned start; OR that asks for nothing without RDRF; a flag that rises asleep.
 fn clauses() -> bool
     ensures { λ r. ⌜ (r ≡ true) × Clauses ⌝ }
+{
+    true
+}
+
+// The noise figure: a sum over a frame's samples, for any number of bits; NF as before; the figure beside SCDR.
+// Ruled out: the stop bit left out; the start bit's ones at RT8 to RT10 left out; a lost frame's figure kept.
+fn noise_figure() -> bool
+    ensures { λ r. ⌜ (r ≡ true) × Figures ⌝ }
 {
     true
 }

@@ -2,8 +2,8 @@
 ghost use mathlib.Core.Path.{_≡_};
 ghost use Rattle.sci.specs.Control.{bitsOf};
 ghost use Rattle.sci.specs.Plain.{busy, rests, rested};
-ghost use Rattle.sci.specs.Framer.{searching, begun, begins, abandons, ends, frameOf, searched, judged, heard, startBit, collected, dataBit, stopBit, inBit, framed};
-use crate::bits::disagree;
+ghost use Rattle.sci.specs.Framer.{more, searching, begun, begins, abandons, ends, frameOf, searched, noiseAt, judged, heard, startBit, collected, dataBit, stopBit, inBit, framed};
+use crate::bits::digit;
 use crate::bits::vote;
 use crate::control::bits_of;
 
@@ -18,14 +18,15 @@ pub struct Framer {
     // The first two samples of a vote.
     pub first: bool,
     pub second: bool,
-    pub noise: bool,
+    // The noise figure so far.
+    pub noise: u8,
     pub shift: u16,
 }
 
-// What a frame brings at its end.
+// What a frame brings at its end: its word, its noise figure, and the stop bit.
 pub struct Frame {
     pub word: u16,
-    pub noise: bool,
+    pub noise: u8,
     pub stop: bool,
 }
 
@@ -41,7 +42,7 @@ impl Framer {
             rt: 0,
             first: false,
             second: false,
-            noise: false,
+            noise: 0,
             shift: 0,
         }
     }
@@ -57,7 +58,7 @@ impl Framer {
             rt: 1,
             first: false,
             second: false,
-            noise: false,
+            noise: 0,
             shift: 0,
         }
     }
@@ -75,7 +76,8 @@ impl Framer {
     pub fn abandons(self, x: bool) -> bool
         ensures { λ r. ⌜ r ≡ abandons self x ⌝ }
     {
-        self.framing & self.starting & (self.rt == 6) & vote(self.first, self.second, x)
+        let start = vote(self.first, self.second, x);
+        self.framing & self.starting & (self.rt == 6) & start.bit
     }
 
     // Whether a sample is RT10 of the stop bit.
@@ -91,10 +93,11 @@ impl Framer {
     pub fn frame(self, x: bool) -> Frame
         ensures { λ r. ⌜ r ≡ frameOf self x ⌝ }
     {
+        let v = vote(self.first, self.second, x);
         Frame {
             word: self.shift,
-            noise: self.noise | disagree(self.first, self.second, x),
-            stop: vote(self.first, self.second, x),
+            noise: more(self.noise, v.disagreed),
+            stop: v.bit,
         }
     }
 
@@ -129,27 +132,38 @@ impl Framer {
         if begins { Framer::begun(n) } else { self }
     }
 
-    fn judged(mut self, abandoned: bool, one: bool) -> Framer
-        ensures { λ r. ⌜ r ≡ judged abandoned self one ⌝ }
+    // RT rt, with so much more noise.
+    fn noise_at(mut self, rt: u8, by: u8) -> Framer
+        ensures { λ r. ⌜ r ≡ noiseAt self rt by ⌝ }
+    {
+        self.rt = rt;
+        self.noise = more(self.noise, by);
+        self
+    }
+
+    fn judged(self, abandoned: bool, ones: u8) -> Framer
+        ensures { λ r. ⌜ r ≡ judged abandoned self ones ⌝ }
     {
         if abandoned {
-            return Framer::searching();
+            Framer::searching()
+        } else {
+            self.noise_at(7, ones)
         }
-        self.rt = 7;
-        self.noise = self.noise | one;
-        self
     }
 
     // Any one at RT8, RT9, RT10 of the start bit is noise.
     fn heard(mut self, voted: bool, rt: u8, x: bool) -> Framer
         ensures { λ r. ⌜ r ≡ heard voted self rt x ⌝ }
     {
-        self.rt = rt;
-        self.noise = self.noise | (voted & x);
-        self
+        if voted {
+            self.noise_at(rt, digit(x))
+        } else {
+            self.rt = rt;
+            self
+        }
     }
 
-    // RT rt of the start bit.
+    // RT rt of the start bit. Where the vote at RT7 lets it stand, what disagreed is its one, if there is one.
     fn start_bit(mut self, rt: u8, x: bool) -> Framer
         ensures { λ r. ⌜ r ≡ startBit self rt x ⌝ }
     {
@@ -164,10 +178,10 @@ impl Framer {
                 self.second = x;
                 self
             }
-            7 => self.judged(
-                vote(self.first, self.second, x),
-                self.first | self.second | x,
-            ),
+            7 => {
+                let v = vote(self.first, self.second, x);
+                self.judged(v.bit, v.disagreed)
+            }
             16 => {
                 self.rt = rt;
                 self.starting = false;
@@ -193,9 +207,10 @@ impl Framer {
                 self
             }
             10 => {
+                let v = vote(self.first, self.second, x);
                 self.rt = rt;
-                self.noise = self.noise | disagree(self.first, self.second, x);
-                self.shift = collected(vote(self.first, self.second, x), m, self.shift);
+                self.noise = more(self.noise, v.disagreed);
+                self.shift = collected(v.bit, m, self.shift);
                 self
             }
             16 => {
@@ -258,6 +273,13 @@ impl Framer {
             self.searched(self.begins(three, x), bits_of(m))
         }
     }
+}
+
+// The figure stops at 255, which no frame's gets to.
+fn more(noise: u8, by: u8) -> u8
+    ensures { λ r. ⌜ r ≡ more noise by ⌝ }
+{
+    if noise < 255 - by { noise + by } else { 255 }
 }
 
 // Whether something is done at the RT after this one: RT3, RT5, RT7 to RT10 and RT16, as the bits 2, 4, 6 to 9 and 15.

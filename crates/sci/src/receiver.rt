@@ -15,8 +15,9 @@ use crate::status::Status;
 #[repr(C)]
 pub struct Receiver {
     pub framer: Framer,
-    // SCDR as it is read, and whether a frame has entered it since the idle count last got to its limit.
+    // SCDR as it is read, the noise figure of its word, and whether a frame has entered it since the idle count last got to its limit.
     pub scdr: u16,
+    pub noise: u8,
     pub since: bool,
     // The last three samples since RE rose, latest first.
     pub last1: bool,
@@ -68,7 +69,7 @@ fn raised(s: Status, f: Frame, bad: bool) -> Status
     ensures { λ r. ⌜ r ≡ raised s f bad ⌝ }
 {
     let full = s.raise(Flags::RDRF);
-    let noisy = full.raise_if(f.noise, Flags::NF);
+    let noisy = full.raise_if(0 < f.noise, Flags::NF);
     let broken = noisy.raise_if(!f.stop, Flags::FE);
     broken.raise_if(bad, Flags::PF)
 }
@@ -108,7 +109,7 @@ fn kept(enters: bool, word: u16, scdr: u16) -> u16
 }
 
 impl Receiver {
-    // RE clear: searching, no ones seen, count 0, no frame since. RWU and SCDR stay.
+    // RE clear: searching, no ones seen, count 0, no frame since. RWU, SCDR and its noise figure stay.
     // Ruled out: SCDR cleared; the idle count kept.
     pub fn start_state(self) -> Receiver
         ensures { λ r. ⌜ r ≡ startState self ⌝ }
@@ -122,6 +123,7 @@ impl Receiver {
             since: false,
             asleep: self.asleep,
             scdr: self.scdr,
+            noise: self.noise,
         }
     }
 
@@ -167,6 +169,7 @@ impl Receiver {
         ensures { λ r. ⌜ r ≡ receiverAfter self o sccr1 x ⌝ }
     {
         let framer = self.framer;
+        let frame = framer.frame(x);
         let m = control::m(sccr1);
         let enters = o.taken & !o.lost;
         Receiver {
@@ -178,6 +181,7 @@ impl Receiver {
             since: !o.reached & (enters | self.since),
             asleep: self.asleep & !o.taken & !(o.reached & !control::wake(sccr1)),
             scdr: kept(enters, framer.shift, self.scdr),
+            noise: steps::choose(enters, frame.noise, self.noise),
         }
     }
 

@@ -46,6 +46,7 @@ impl Sci {
                 since: false,
                 asleep: false,
                 scdr: 0,
+                noise: 0,
             },
             transmitter: Transmitter {
                 scdr: 0,
@@ -157,6 +158,15 @@ impl Sci {
     {
         let receiver = self.receiver;
         receiver.scdr % 512
+    }
+
+    // The noise figure of the word in SCDR.
+    // Ruled out: that of the frame under way; one for any figure above 0.
+    pub fn noise(self) -> u8
+        ensures { λ r. ⌜ r ≡ self .receiver .noise ⌝ }
+    {
+        let receiver = self.receiver;
+        receiver.noise
     }
 
     fn with_status(mut self, s: Status) -> Sci

@@ -15,11 +15,11 @@ layout!(Answer, 4, 12; refusal 0, value 4, levels 8, mask 9, level 10, vector 11
 layout!(Flags, 2, 2; bits 0);
 layout!(Status, 2, 4; flags 0, seen 2);
 layout!(Framer, 2, 10; framing 0, starting 1, left 2, rt 3, first 4, second 5, noise 6, shift 8);
-layout!(Receiver, 2, 18;
-    framer 0, scdr 10, since 12, last1 13, last2 14, last3 15, idle 16, asleep 17,
+layout!(Receiver, 2, 20;
+    framer 0, scdr 10, noise 12, since 13, last1 14, last2 15, last3 16, idle 17, asleep 18,
 );
 layout!(Transmitter, 2, 6; preamble 0, left 1, shift 2, scdr 4);
-layout!(Sci, 2, 34; sccr0 0, sccr1 2, prescaler 4, status 6, receiver 10, transmitter 28);
+layout!(Sci, 2, 36; sccr0 0, sccr1 2, prescaler 4, status 6, receiver 10, transmitter 30);
 layout!(Registers, 2, 8; spcr3 0, spcr0 2, spcr1 4, spcr2 6);
 layout!(SpsrFlags, 1, 3; spif 0, modf 1, halta 2);
 layout!(Spsr, 1, 7; flags 0, seen 3, cptqp 6);
@@ -30,7 +30,7 @@ layout!(Entry, 2, 14;
     selecting 12,
 );
 layout!(Qspi, 2, 114; registers 0, spsr 8, ram 16, next 96, entry 100);
-layout!(Module, 2, 156;
-    sci 0, qspi 34, qsmcr 148, qilr 150, qivr 151, portqs 152, pqspar 153, ddrqs 154, inputs 155,
+layout!(Module, 2, 158;
+    sci 0, qspi 36, qsmcr 150, qilr 152, qivr 153, portqs 154, pqspar 155, ddrqs 156, inputs 157,
 );
 layout!(Played, 8, 184; state 0, read 160, written 168, stop 176);

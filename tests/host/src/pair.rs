@@ -68,6 +68,11 @@ impl Pair {
             ),
         };
         same(|| format!("{event:X?}"), library.into(), reference)?;
+        same(
+            || format!("the noise figure after {event:X?}"),
+            self.library.noise(),
+            self.reference.noise(),
+        )?;
         Ok(reference)
     }
 

@@ -34,13 +34,14 @@ c_struct!(Framer {
     rt: u8,
     first: bool,
     second: bool,
-    noise: bool,
+    noise: u8,
     shift: u16,
 });
 
 c_struct!(Receiver {
     framer: Framer,
     scdr: u16,
+    noise: u8,
     since: bool,
     last1: bool,
     last2: bool,
@@ -142,6 +143,7 @@ extern "C" {
     fn qsm_hold(m: *mut Module, pins: u8, rxd: bool, clocks: u16) -> Answer;
     fn qsm_read(m: *mut Module, supervisor: bool, width: u8, offset: u16) -> Answer;
     fn qsm_write(m: *mut Module, supervisor: bool, width: u8, offset: u16, value: u32) -> Answer;
+    fn qsm_noise(m: *const Module) -> u8;
     fn qsm_play(m: Module, trace: *const u8, length: usize, log: *mut u8, room: usize) -> Played;
 }
 
@@ -177,6 +179,12 @@ impl Module {
     pub fn write(&mut self, supervisor: bool, width: u8, offset: u16, value: u32) -> Answer {
         // SAFETY: as said above.
         unsafe { qsm_write(self, supervisor, width, offset, value) }
+    }
+
+    /// The noise figure of the word in SCDR.
+    pub fn noise(&self) -> u8 {
+        // SAFETY: as said above.
+        unsafe { qsm_noise(self) }
     }
 
     pub fn play(self, trace: &[u8], log: &mut [u8]) -> Played {

@@ -5,7 +5,7 @@ use Rattle.sci.proofs.receiver.raised.Tie as tie
 
 returns : tie.Need-returns
 unfolding raised
-returns c = rw (c .raise-if3 .ensures, c .before .raise-if2 .ensures, c .before .before .before .raise-if .ensures, c .before .before .before .before .raise .ensures)
+returns c = rw (c .raise-if3 .ensures, c .before .raise-if2 .ensures, c .before .before .before .raise-if .ensures, c .before .before .before .before .before .raise .ensures)
 
 pub raised-spec : {M : Type 1} → statement M
 raised-spec =

@@ -14,7 +14,7 @@ returns-2 c = rw (c .match .keys2)
 
 returns-3 : tie.Need-returns-3
 unfolding dataBit
-returns-3 c = rw (c .collected .ensures, c .before .vote .ensures, c .before .before .before .disagree .ensures, c .before .before .before .before .match .keys3)
+returns-3 c = rw (c .collected .ensures, c .before .more .ensures, c .before .before .vote .ensures, c .before .before .before .match .keys3)
 
 returns-4 : tie.Need-returns-4
 unfolding dataBit

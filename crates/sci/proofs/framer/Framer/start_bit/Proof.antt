@@ -1,5 +1,6 @@
 use borrow.Author.Tests.{ne-eqb}
 use Rattle.sci.specs.Framer.{startBit}
+use Rattle.sci.proofs.Votes.{judged-ones}
 use borrow.Author.Needs.{needs}
 use Rattle.sci.proofs.framer.Framer.start_bit.Statement.{statement}
 use Rattle.sci.proofs.framer.Framer.start_bit.Tie as tie
@@ -14,7 +15,10 @@ returns-2 c = rw (c .match .keys2)
 
 returns-3 : tie.Need-returns-3
 unfolding startBit
-returns-3 c = rw (c .judged .ensures, c .before .before .vote .ensures, c .before .before .before .match .keys3)
+returns-3 c =
+    let a = c .before .before .before .args in
+    rw (c .judged .ensures, c .before .vote .ensures, c .before .before .match .keys3)
+    (judged-ones (a .self .first) (a .self .second) (a .x) (a .self))
 
 returns-4 : tie.Need-returns-4
 unfolding startBit
