@@ -1,0 +1,169 @@
+// Two logs of answers, compared: which answers differ and in which fields, and what the longer log has beyond the common end.
+ghost use mathlib.Core.Path.{_≡_};
+ghost use mathlib.Core.Bool.{cond};
+ghost use mathlib.Core.List.{_++_};
+ghost use Prim.Native.Nat.{_≤_, _*_, _/_, min};
+ghost use lib.ListN.{length, take, drop};
+ghost use denote.Ref.{ptr};
+ghost use Rattle.comparison.specs.Answer.{fields, stride, same, sumOf};
+ghost use Rattle.comparison.specs.Compare.{differing, listed, compared, Reports, inNumbers};
+
+// The bytes of each field of an answer, in order: kind, refusal, value, levels, mask, level, vector.
+const SIZES: [usize; 7] = [1, 1, 4, 1, 1, 1, 1];
+
+// The fields and the bytes of an answer.
+const FIELDS: usize = 7;
+
+const STRIDE: usize = 10;
+
+// Whether two parts of one length hold the same bytes.
+fn same(x: &[u8], y: &[u8]) -> bool
+    requires { ⌜ length (now x) ≡ length (now y) ⌝ }
+    ensures { λ r. ⌜ r ≡ same (now (x .entry)) (now (y .entry)) ⌝ }
+{
+    let mut i = 0;
+    while i < x.len() {
+        if x[i] != y[i] {
+            return false;
+        }
+        i += 1;
+    }
+    true
+}
+
+// What a field adds to a sum.
+fn weighed(alike: bool, weight: u64) -> u64
+    ensures { λ r. ⌜ r ≡ cond alike 0 weight ⌝ }
+{
+    if alike { 0 } else { weight }
+}
+
+// The sum of 1, 2, 4 and so on for those of the first n fields in which two answers differ.
+fn sum(n: usize, x: &[u8], y: &[u8]) -> u64
+    requires { ⌜ (n ≤ 7) × (stride (take n fields) ≤ length (now x)) × (length (now x) ≡ length (now y)) ⌝ }
+    ensures { λ r. ⌜ r ≡ sumOf (take n fields) (now (x .entry)) (now (y .entry)) ⌝ }
+{
+    let mut sum: u64 = 0;
+    let mut weight: u64 = 1;
+    let mut start: usize = 0;
+    let mut f: usize = 0;
+    while f < n {
+        let end = start + SIZES[f];
+        sum += weighed(same(&x[start..end], &y[start..end]), weight);
+        weight *= 2;
+        start = end;
+        f += 1;
+    }
+    sum
+}
+
+// The first pass: how many of the first n answers differ.
+fn differences(bytes: usize, a: &[u8], b: &[u8], n: usize) -> usize
+    requires { ⌜ (n * bytes ≤ length (now a)) × (n * bytes ≤ length (now b)) ⌝ }
+    ensures { λ r. ⌜ r ≡ length (differing bytes (now (a .entry)) (now (b .entry)) n) ⌝ }
+{
+    let mut count: usize = 0;
+    let mut at: usize = 0;
+    let mut i: usize = 0;
+    while i < n {
+        let end = at + bytes;
+        if !same(&a[at..end], &b[at..end]) {
+            count += 1;
+        }
+        at = end;
+        i += 1;
+    }
+    count
+}
+
+// The second pass: the number of each and the sum for those of its first k fields that differ, into the list.
+fn write(k: usize, bytes: usize, a: &[u8], b: &[u8], n: usize, list: &mut [u64])
+    requires { ⌜ (k ≤ 7) × (bytes ≡ stride (take k fields)) × (n * bytes ≤ length (now a)) × (n * bytes ≤ length (now b)) ⌝ }
+    requires { ⌜ 2 * length (differing bytes (now a) (now b) n) ≤ length (now list) ⌝ }
+    ensures { λ _. ⌜ now (list .exit) ≡ listed (take k fields) (now (a .entry)) (now (b .entry)) (differing bytes (now (a .entry)) (now (b .entry)) n) ++ drop (2 * length (differing bytes (now (a .entry)) (now (b .entry)) n)) (now (list .entry)) ⌝ }
+{
+    let mut put: usize = 0;
+    let mut at: usize = 0;
+    let mut i: usize = 0;
+    while i < n {
+        let end = at + bytes;
+        if !same(&a[at..end], &b[at..end]) {
+            let s = sum(k, &a[at..end], &b[at..end]);
+            list[put] = i as u64;
+            list[put + 1] = s;
+            put += 2;
+        }
+        at = end;
+        i += 1;
+    }
+}
+
+fn least(x: usize, y: usize) -> usize
+    ensures { λ r. ⌜ r ≡ min x y ⌝ }
+{
+    if x < y { x } else { y }
+}
+
+// Compares two logs. Two numbers for each differing answer go to the front of the list, their count and the refusal, or 0, are lent too.
+// What the longer log has past the common end is handed back.
+// Ruled out: a differing answer left out; the list written on a refusal; the stretch of the shorter log; 7 for a cut log.
+pub fn compare<'a>(
+    a: &'a [u8],
+    b: &'a [u8],
+    list: &mut [u64],
+    count: &mut u64,
+    refusal: &mut u8,
+) -> &'a [u8]
+    ensures { λ r. ⌜ Reports (compared fields (now (a .entry)) (now (b .entry)) (now (list .entry))) (ptr (a .entry)) (ptr (b .entry)) (now (list .exit)) (now (count .exit)) (now (refusal .exit)) (now r) (ptr r) ⌝ }
+{
+    *count = 0;
+    let start = least(a.len(), b.len());
+    if a.len() % STRIDE != 0 {
+        *refusal = 6;
+        return &a[start..start];
+    }
+    if b.len() % STRIDE != 0 {
+        *refusal = 6;
+        return &a[start..start];
+    }
+    let n = least(a.len() / STRIDE, b.len() / STRIDE);
+    let k = differences(STRIDE, a, b, n);
+    if list.len() / 2 < k {
+        *refusal = 7;
+        return &a[start..start];
+    }
+    write(FIELDS, STRIDE, a, b, n, list);
+    *count = k as u64;
+    *refusal = 0;
+    if a.len() < b.len() {
+        return &b[start..];
+    }
+    &a[start..]
+}
+
+// What a comparison gives beside its list, in numbers: the stretch is `length` bytes from `start` on, of the second log or of the first.
+#[repr(C)]
+pub struct Compared {
+    pub count: u64,
+    pub refusal: u8,
+    pub second: bool,
+    pub start: usize,
+    pub length: usize,
+}
+
+// The same with the stretch in numbers.
+// Ruled out: a stretch of the first log where the second is longer; a start or a length of 0 for every stretch.
+pub fn compare_numbers<'a>(a: &'a [u8], b: &'a [u8], list: &mut [u64]) -> Compared
+    ensures { λ r. ⌜ (now (list .exit) ≡ compared fields (now (a .entry)) (now (b .entry)) (now (list .entry)) .list) × (r ≡ inNumbers (compared fields (now (a .entry)) (now (b .entry)) (now (list .entry)))) ⌝ }
+{
+    let mut count: u64 = 0;
+    let mut refusal: u8 = 0;
+    let rest = compare(a, b, list, &mut count, &mut refusal);
+    Compared {
+        count,
+        refusal,
+        second: (refusal == 0) & (a.len() < b.len()),
+        start: least(a.len(), b.len()),
+        length: rest.len(),
+    }
+}
