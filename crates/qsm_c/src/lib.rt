@@ -1,11 +1,15 @@
-// The C boundary: a module behind a pointer, which the host keeps, and the playing of a trace. `include/qsm.h` declares it.
+// The C boundary: a module behind a pointer, which the host keeps, the playing of a trace, and the comparing of two logs. `include/qsm.h`
+// declares it.
 ghost use mathlib.Core.Path.{_≡_};
 ghost use lib.ListN.{length};
 ghost use Rattle.qsm.specs.State.{resetModule};
 ghost use Rattle.qsm.specs.declared.event.Event.the-variants.{Reset, Hold};
 ghost use Rattle.host.specs.Host.{Applied, readEvent, writeEvent};
 ghost use Rattle.trace.specs.Play.{play};
+ghost use Rattle.comparison.specs.Answer.{fields};
+ghost use Rattle.comparison.specs.Compare.{compared, inNumbers};
 ghost use Rattle.qsm_c.specs.Play.{Plays};
+use comparison::Compared;
 use qsm::event::Answer;
 use qsm::state::Module;
 
@@ -102,4 +106,13 @@ pub extern "C" fn qsm_play(m: Module, trace: &[u8], log: &mut [u8]) -> Played
         written: p.written,
         stop: trace::stop_number(stop),
     }
+}
+
+// Two logs, compared into a list.
+// Ruled out: a list changed by a refusal; the logs exchanged, which would name the wrong one.
+#[no_mangle]
+pub extern "C" fn qsm_compare<'a>(a: &'a [u8], b: &'a [u8], list: &mut [u64]) -> Compared
+    ensures { λ r. ⌜ (now (list .exit) ≡ compared fields (now (a .entry)) (now (b .entry)) (now (list .entry)) .list) × (r ≡ inNumbers (compared fields (now (a .entry)) (now (b .entry)) (now (list .entry)))) ⌝ }
+{
+    comparison::compare_numbers(a, b, list)
 }
