@@ -1,5 +1,5 @@
 /*
- * Motorola's queued serial module (QSM), as a struct that a host keeps and changes by six functions.
+ * Motorola's queued serial module (QSM), as a struct that a host keeps and changes by six functions; and a tool for its logs, qsm_compare.
  *
  * For C11 and C++11 on x86-64. The archive is made by `rt staticlib qsm_c`; link target/staticlib/libqsm_c.a.
  *
@@ -13,6 +13,7 @@
  *   - A `struct qsm *` points to one valid module, which nobody else uses during the call. Valid is what qsm_new gave, a copy of it
  *     (assignment or memcpy: a saved state is a copy), and what these functions made of it. Never null.
  *   - `trace` points to `length` bytes, `log` to `room` bytes, and the two do not overlap. Never null, also where there are 0 bytes.
+ *   - `first` and `second` point to so many bytes and may overlap, `list` to `room` numbers that overlap neither. Never null either.
  *   - Every bool, in the calls and in the struct, is 0 or 1.
  * There are no hidden variables: different modules may be used by different threads at once.
  */
@@ -35,8 +36,8 @@ enum qsm_refusal {
     QSM_UNMODELLED = 3,   /* a write would set an unmodelled bit, BITS 1 to 7, or SPE with MSTR clear */
     QSM_GUARDED = 4,      /* a write would change a guarded field while its half is on */
     QSM_UNKNOWN_KIND = 5, /* trace: a record of unknown kind */
-    QSM_CUT_RECORD = 6,   /* trace: a record cut by the end */
-    QSM_NO_ROOM = 7       /* trace: fewer than 10 bytes left of the log */
+    QSM_CUT_RECORD = 6,   /* trace: a record cut by the end; compare: a length that is no multiple of 10 */
+    QSM_NO_ROOM = 7       /* trace: fewer than 10 bytes left of the log; compare: the list is too short */
 };
 
 /* Offsets of the registers from the module's base. Words are big-endian. */
@@ -187,6 +188,20 @@ struct qsm_played {
     uint8_t stop;     /* QSM_UNKNOWN_KIND to QSM_NO_ROOM; QSM_ANSWERED at the end of the trace */
 };
 
+/* Fields of an answer in a log, as qsm_compare adds them up. */
+enum qsm_field {
+    QSM_FIELD_KIND = 1, QSM_FIELD_REFUSAL = 2, QSM_FIELD_VALUE = 4, QSM_FIELD_LEVELS = 8, QSM_FIELD_MASK = 16, QSM_FIELD_LEVEL = 32,
+    QSM_FIELD_VECTOR = 64
+};
+
+struct qsm_compared {
+    uint64_t count;  /* answers that differ: twice as many numbers are in the list */
+    uint8_t refusal; /* QSM_CUT_RECORD, QSM_NO_ROOM; else QSM_ANSWERED */
+    bool second;     /* the surplus is the second log's; the first's where neither is longer */
+    size_t start;    /* its place in that log: the common end */
+    size_t length;   /* its bytes */
+};
+
 /* A module fresh from reset. */
 struct qsm qsm_new(void);
 
@@ -219,6 +234,14 @@ uint8_t qsm_noise(const struct qsm *m);
  * record that it can't answer: what was answered before stands, and the log's bytes past the answers are unchanged.
  */
 struct qsm_played qsm_play(struct qsm m, const uint8_t *trace, size_t length, uint8_t *log, size_t room);
+
+/*
+ * Compares two logs. For each answer that differs the list gets two numbers, in order: the answer's, from 0, and the sum of its differing
+ * fields. The list past them is as it was. What the longer log has past the shorter one's end is named by its place. QSM_CUT_RECORD, then
+ * QSM_NO_ROOM, refuse: count 0, no surplus, and the list is as it was.
+ */
+struct qsm_compared qsm_compare(const uint8_t *first, size_t first_length, const uint8_t *second, size_t second_length,
+                                uint64_t *list, size_t room);
 
 #ifdef __cplusplus
 }
@@ -266,6 +289,8 @@ QSM_AT(qsm, qilr, 152, 1); QSM_AT(qsm, qivr, 153, 1); QSM_AT(qsm, portqs, 154, 1
 QSM_AT(qsm, ddrqs, 156, 1); QSM_AT(qsm, inputs, 157, 1);
 QSM_STRUCT(qsm_played, 8, 184); QSM_AT(qsm_played, state, 0, 158); QSM_AT(qsm_played, read, 160, 8);
 QSM_AT(qsm_played, written, 168, 8); QSM_AT(qsm_played, stop, 176, 1);
+QSM_STRUCT(qsm_compared, 8, 32); QSM_AT(qsm_compared, count, 0, 8); QSM_AT(qsm_compared, refusal, 8, 1);
+QSM_AT(qsm_compared, second, 9, 1); QSM_AT(qsm_compared, start, 16, 8); QSM_AT(qsm_compared, length, 24, 8);
 #undef QSM_AT
 #undef QSM_STRUCT
 #undef QSM_IS

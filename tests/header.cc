@@ -37,5 +37,19 @@ int main()
     struct qsm_played played = qsm_play(saved, trace, sizeof trace, log, sizeof log);
     expect(played.read == 5 && played.written == 20 && played.stop == QSM_CUT_RECORD, "the third record is cut");
     expect(std::memcmp(log, answers, sizeof log) == 0, "the first two are answered, the log's rest is as it was");
+
+    uint8_t other[sizeof log];
+    std::memcpy(other, log, sizeof log);
+    other[0] = 0x11;
+    other[9] = 1;
+    uint64_t list[3] = {9, 9, 9};
+    struct qsm_compared differ = qsm_compare(log, 10, other, 20, list, 3);
+    expect(differ.count == 1 && list[0] == 0 && list[1] == (QSM_FIELD_KIND | QSM_FIELD_VECTOR) && list[2] == 9, "kind and vector differ");
+    expect(differ.refusal == QSM_ANSWERED && differ.second && differ.start == 10 && differ.length == 10, "the second log is longer");
+    list[0] = 9;
+    differ = qsm_compare(log, 10, other, 20, list, 1);
+    expect(differ.refusal == QSM_NO_ROOM && differ.count == 0 && list[0] == 9, "one number is too few, and stays");
+    differ = qsm_compare(log, 10, other, 21, list, 0);
+    expect(differ.refusal == QSM_CUT_RECORD && !differ.second && differ.length == 0, "a cut log is refused first");
     return failed;
 }

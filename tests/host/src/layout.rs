@@ -34,3 +34,4 @@ layout!(Module, 2, 158;
     sci 0, qspi 36, qsmcr 150, qilr 152, qivr 153, portqs 154, pqspar 155, ddrqs 156, inputs 157,
 );
 layout!(Played, 8, 184; state 0, read 160, written 168, stop 176);
+layout!(Compared, 8, 32; count 0, refusal 8, second 9, start 16, length 24);

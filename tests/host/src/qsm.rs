@@ -137,6 +137,14 @@ c_struct!(Played {
     stop: u8,
 });
 
+c_struct!(Compared {
+    count: u64,
+    refusal: u8,
+    second: bool,
+    start: usize,
+    length: usize,
+});
+
 extern "C" {
     fn qsm_new() -> Module;
     fn qsm_reset(m: *mut Module) -> Answer;
@@ -145,6 +153,14 @@ extern "C" {
     fn qsm_write(m: *mut Module, supervisor: bool, width: u8, offset: u16, value: u32) -> Answer;
     fn qsm_noise(m: *const Module) -> u8;
     fn qsm_play(m: Module, trace: *const u8, length: usize, log: *mut u8, room: usize) -> Played;
+    fn qsm_compare(
+        first: *const u8,
+        first_length: usize,
+        second: *const u8,
+        second_length: usize,
+        list: *mut u64,
+        room: usize,
+    ) -> Compared;
 }
 
 impl Default for Module {
@@ -198,6 +214,20 @@ impl Module {
                 log.len(),
             )
         }
+    }
+}
+
+pub fn compare(first: &[u8], second: &[u8], list: &mut [u64]) -> Compared {
+    // SAFETY: slices are what the header asks for.
+    unsafe {
+        qsm_compare(
+            first.as_ptr(),
+            first.len(),
+            second.as_ptr(),
+            second.len(),
+            list.as_mut_ptr(),
+            list.len(),
+        )
     }
 }
 
