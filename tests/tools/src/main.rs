@@ -1,0 +1,56 @@
+//! The library's tools at a command line, for tests: `tests/vectors-02/run` says what each takes and prints.
+//!
+//! usage: tools COMMAND [ARGUMENT..]
+
+mod compare;
+mod play;
+
+use std::io::{self, Read, Write};
+use std::process::ExitCode;
+
+/// What a command prints, or what is wrong with its arguments or its files.
+pub type Printed = Result<Vec<u8>, String>;
+
+pub fn file(name: &str) -> Result<Vec<u8>, String> {
+    std::fs::read(name).map_err(|e| format!("{name}: {e}"))
+}
+
+pub fn standard_input() -> Result<Vec<u8>, String> {
+    let mut bytes = Vec::new();
+    io::stdin()
+        .read_to_end(&mut bytes)
+        .map_err(|e| format!("standard input: {e}"))?;
+    Ok(bytes)
+}
+
+pub fn number(word: &str) -> Result<usize, String> {
+    word.parse().map_err(|_| format!("no number: {word}"))
+}
+
+fn run(words: &[&str]) -> Printed {
+    match words {
+        ["play"] => play::play(None),
+        ["play", room] => play::play(Some(number(room)?)),
+        ["compare", first, second, room] => {
+            compare::compare(&file(first)?, &file(second)?, number(room)?)
+        }
+        _ => Err("usage: tools play [ROOM] | compare FILE_A FILE_B ROOM".into()),
+    }
+}
+
+fn main() -> ExitCode {
+    let words: Vec<String> = std::env::args().skip(1).collect();
+    let words: Vec<&str> = words.iter().map(String::as_str).collect();
+    let printed = run(&words).and_then(|bytes| {
+        io::stdout()
+            .write_all(&bytes)
+            .map_err(|e| format!("standard output: {e}"))
+    });
+    match printed {
+        Ok(()) => ExitCode::SUCCESS,
+        Err(message) => {
+            eprintln!("tools: {message}");
+            ExitCode::FAILURE
+        }
+    }
+}
