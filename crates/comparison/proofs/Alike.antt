@@ -1,9 +1,8 @@
 -- The test whether two lists are the same, and the steps of the loop that makes it. Assumes nothing.
-use mathlib.Core.Path.{_≡_, refl, sym}
+use mathlib.Core.Path.{_≡_, refl, sym, ap, _∙_}
 use mathlib.Core.Bool.{Bool, true, false, _&&_, false≢true}
 use mathlib.Core.List.{List, [], _∷_}
 use Prim.Native.Nat.{ℕ, _+_, _<_, _≤_}
-use native.Mathlib.Omega.{arith}
 use native.Mathlib.Numerals.{add-one}
 use lib.Dec.{eqb}
 use lib.ListN.{length, getD, drop, drop-of-length-le}
@@ -27,6 +26,9 @@ same-equal (a ∷ x) [] e = absurd (false≢true e)
 same-equal (a ∷ x) (b ∷ y) e =
     let h = both (eqb a b) (same x y) e in
     rw (eqb-true a b (h .0), same-equal x y (h .1))
+
+pub same-other : (x y : List ℕ) → same x y ≡ false → x ≡ y → ⊥
+same-other x y e q = false≢true (sym e ∙ ap (same x) (sym q) ∙ same-refl x)
 
 eqb-sym : (a b : ℕ) (t : Bool) → eqb a b ≡ t → eqb b a ≡ t
 eqb-sym a b true e = eq-eqb b a (sym (eqb-true a b e))

@@ -3,3 +3,11 @@ pub mod Summing
 pub mod Differing
 pub mod Listing
 pub mod Ways
+pub mod Found
+pub mod Accepted
+pub mod FieldBits
+pub mod Equal
+pub mod Told
+pub mod Rest
+pub mod Parts
+pub mod Joining

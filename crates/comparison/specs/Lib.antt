@@ -1,2 +1,5 @@
 pub mod Answer
 pub mod Compare
+pub mod Laws
+pub mod Pieces
+pub mod Shown

@@ -8,6 +8,8 @@ ghost use denote.Ref.{ptr};
 ghost use Rattle.comparison.specs.Answer.{fields, stride, same, sumOf};
 ghost use Rattle.comparison.specs.Compare.{differing, listed, compared, Reports, inNumbers};
 
+mod claims;
+
 // The bytes of each field of an answer, in order: kind, refusal, value, levels, mask, level, vector.
 const SIZES: [usize; 7] = [1, 1, 4, 1, 1, 1, 1];
 

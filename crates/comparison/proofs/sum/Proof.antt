@@ -2,7 +2,7 @@ use denote.Ref.{now}
 use Prim.Native.Nat.{_+_, _-_, _≤_}
 use native.Mathlib.Omega.{arith}
 use borrow.Author.Needs.{needs}
-use lib.ListN.{length, getD, take}
+use lib.ListN.{length, getD}
 use Rattle.comparison.specs.Answer.{fields}
 use Rattle.comparison.proofs.Summing.{Summing, summing-starts, summed, size-within, weight-small, small, sums}
 use Rattle.comparison.proofs.sum.Statement.{statement}

@@ -5,7 +5,7 @@ use Prim.Native.Nat.{_+_, _-_, _≤_}
 use native.Mathlib.Omega.{arith}
 use borrow.Author.Needs.{needs}
 use borrow.Author.Tests.{not-true, not-false}
-use lib.ListN.{length, take, drop, length-take, length-drop, length-set}
+use lib.ListN.{length, take, length-take, length-drop, length-set}
 use Rattle.comparison.specs.Answer.{fields}
 use Rattle.comparison.proofs.Differing.{answers-within}
 use Rattle.comparison.proofs.Listing.{Listing, listing-starts, length-is, skips, fits, puts}
