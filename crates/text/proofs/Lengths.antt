@@ -44,7 +44,7 @@ decimal-length (suc digits) n =
 
 -- ---- an answer
 
-refusal-length : (n : ℕ) → length (refusal n) ≤ 26
+pub refusal-length : (n : ℕ) → length (refusal n) ≤ 26
 unfolding refusal
 refusal-length n =
     either (eqb n 0) _ _ 26 (omega arith)
@@ -74,7 +74,7 @@ each-pin-length mask levels =
       pin-length (ascii " TXD") (bit 7 mask) (bit 7 levels),
     ))
 
-pins-length : (mask levels : ℕ) → length (pins mask levels) ≤ 58
+pub pins-length : (mask levels : ℕ) → length (pins mask levels) ≤ 58
 unfolding pins
 pins-length mask levels = either (eqb mask 0) _ _ 58 (omega arith) (simp length-append (omega (arith, each-pin-length mask levels)))
 

@@ -6,4 +6,5 @@ pub mod Register
 pub mod Record
 pub mod Log
 pub mod Message
+pub mod Difference
 pub mod Laws

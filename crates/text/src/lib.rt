@@ -2,6 +2,7 @@
 // line that says what is wrong.
 pub mod answer;
 mod claims;
+pub mod difference;
 pub mod line;
 pub mod log;
 pub mod message;

@@ -7,33 +7,13 @@ returns : tie.Need-returns
 returns c = simp (lt-ltb _ _ (c .if1 .taken))
 
 returns-2 : tie.Need-returns-2
-returns-2 c =
-    let long-enough = c .before .before .before .before .before .before .before .before .before .before .before .before .before .before in
-    simp (
-      c .tested .ensures,
-      c .before .before .before .before .before .before .before .long .ensures,
-      c .before .before .before .before .before .before .before .before .word2 .ensures,
-      c .before .before .before .before .before .before .before .before .before .before .before .word .ensures,
-      le-ltb _ _ (long-enough .if1 .left),
-    )
+returns-2 c = simp (c .tested .ensures, c .before .before .logged-at .ensures, le-ltb _ _ (c .before .before .before .if1 .left))
 
 pub parse-answer-spec : {M : Type 1} → statement M
 parse-answer-spec =
     tie.close
     (tie.spec
     returns
-    (λ c. search needs)
-    (λ c. search needs)
     (λ c κs. search needs)
-    (λ c. search needs)
-    (λ c. search needs)
-    (λ c κs. search needs)
-    (λ c κs. search needs)
-    (λ c. search needs)
-    (λ c. search needs)
-    (λ c. search needs)
-    (λ c. search needs)
-    (λ c. search needs)
-    (λ c. search needs)
     (λ c κs. search needs)
     returns-2)
