@@ -1,4 +1,4 @@
--- How long the line of a differing field can be: it has room. Assumes nothing.
+-- How long the lines of a comparison can be: each has room. Assumes nothing.
 use mathlib.Core.Bool.{not}
 use mathlib.Core.List.{List}
 use Prim.Native.Nat.{ℕ, _≤_}
@@ -9,6 +9,7 @@ use lib.ListN.{length, length-append}
 use Rattle.qsm.specs.declared.event.Answer.{Answer}
 use Rattle.text.specs.Line.{room}
 use Rattle.text.specs.Difference.{fieldName, kindText, refusalText, pinsText, levelText, fieldText, differenceLine}
+use Rattle.text.specs.Verdict.{equalLine, more, differLine, why, refusedLine}
 use Rattle.text.specs.declared.difference.Field.{Field}
 use Rattle.text.specs.declared.difference.Field.the-variants.{Kind, Refusal, Value, Levels, Mask, Level, Vector}
 use Rattle.text.specs.declared.log.Logged.{Logged}
@@ -49,3 +50,24 @@ text-length Vector l = omega arith
 pub difference-fits : (n : ℕ) (f : Field) (x y : Logged) → length (differenceLine n f x y) ≤ room
 difference-fits n f x y =
     simp length-append (omega (arith, decimal-length 20 n, name-length f, text-length f x, text-length f y))
+
+-- ---- the line that says how two logs compare
+
+more-length : (letter n : ℕ) → length (more letter n) ≤ 33
+unfolding more
+more-length letter n = either (eqb n 0) _ _ 33 (omega arith) (simp length-append (omega (arith, decimal-length 20 n)))
+
+why-length : (refusal : ℕ) → length (why refusal) ≤ 29
+unfolding why
+why-length refusal = either (eqb refusal 6) _ _ 29 (omega arith) (either (eqb refusal 7) _ _ 29 (omega arith) (omega arith))
+
+pub equal-fits : (answers : ℕ) → length (equalLine answers) ≤ room
+equal-fits answers = simp length-append (omega (arith, decimal-length 20 answers))
+
+pub differ-fits : (differing answers first second : ℕ) → length (differLine differing answers first second) ≤ room
+differ-fits differing answers first second =
+    simp length-append
+    (omega (arith, decimal-length 20 differing, decimal-length 20 answers, more-length 65 first, more-length 66 second))
+
+pub refused-fits : (refusal : ℕ) → length (refusedLine refusal) ≤ room
+refused-fits refusal = simp length-append (omega (arith, decimal-length 3 refusal, why-length refusal))

@@ -7,4 +7,5 @@ pub mod Record
 pub mod Log
 pub mod Message
 pub mod Difference
+pub mod Verdict
 pub mod Laws

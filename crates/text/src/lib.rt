@@ -9,3 +9,4 @@ pub mod message;
 pub mod number;
 pub mod record;
 pub mod register;
+pub mod verdict;
