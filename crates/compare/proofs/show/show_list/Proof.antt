@@ -1,0 +1,36 @@
+use Prim.Native.Nat.{_≤_}
+use borrow.Author.Needs.{needs}
+use lib.ListN.{length}
+use Rattle.compare.proofs.show.show_list.Statement.{statement}
+use Rattle.compare.proofs.show.show_list.Tie as tie
+
+abbrev Inv-loop : tie.InvT-loop
+Inv-loop first a b list count left₀ at₀ left at = at ≤ length list
+
+abbrev μ-loop : tie.MeasureT-loop
+μ-loop first a b list count left₀ at₀ left at = left
+
+pub show-list-spec : {M : Type 1} → statement M
+show-list-spec =
+    tie.close
+    (tie.spec
+    Inv-loop
+    μ-loop
+    (λ c. search needs)
+    (λ c. search needs)
+    (λ c. search needs)
+    (λ c. search needs)
+    (λ c. search needs)
+    (λ c κs. search needs)
+    (λ c. search needs)
+    (λ c. search needs)
+    (λ c. search needs)
+    (λ c κs. search needs)
+    (λ c κs. search needs)
+    (λ c κs. search needs)
+    (λ c. search needs)
+    (λ c. search needs)
+    (λ c. search needs)
+    (λ c. search needs)
+    (λ c. search needs)
+    (λ c. search needs))
