@@ -1,6 +1,5 @@
 -- How long the lines of a comparison can be: each has room. Assumes nothing.
 use mathlib.Core.Bool.{not}
-use mathlib.Core.List.{List}
 use Prim.Native.Nat.{ℕ, _≤_}
 use native.Mathlib.Omega.{arith}
 use lib.Dec.{eqb, ltb}
