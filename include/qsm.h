@@ -98,6 +98,7 @@ struct qsm_framer {
     uint8_t rt;    /* last RT taken of this bit */
     bool first, second; /* samples of the vote */
     uint8_t noise; /* its noise figure so far */
+    bool moved;    /* an adjustment has set RT1 of this bit */
     uint16_t shift;
 };
 
@@ -263,7 +264,7 @@ QSM_STRUCT(qsm_flags, 2, 2); QSM_AT(qsm_flags, bits, 0, 2);
 QSM_STRUCT(qsm_status, 2, 4); QSM_AT(qsm_status, flags, 0, 2); QSM_AT(qsm_status, seen, 2, 2);
 QSM_STRUCT(qsm_framer, 2, 10); QSM_AT(qsm_framer, framing, 0, 1); QSM_AT(qsm_framer, starting, 1, 1);
 QSM_AT(qsm_framer, left, 2, 1); QSM_AT(qsm_framer, rt, 3, 1); QSM_AT(qsm_framer, first, 4, 1); QSM_AT(qsm_framer, second, 5, 1);
-QSM_AT(qsm_framer, noise, 6, 1); QSM_AT(qsm_framer, shift, 8, 2);
+QSM_AT(qsm_framer, noise, 6, 1); QSM_AT(qsm_framer, moved, 7, 1); QSM_AT(qsm_framer, shift, 8, 2);
 QSM_STRUCT(qsm_receiver, 2, 20); QSM_AT(qsm_receiver, framer, 0, 10); QSM_AT(qsm_receiver, scdr, 10, 2);
 QSM_AT(qsm_receiver, noise, 12, 1); QSM_AT(qsm_receiver, since, 13, 1); QSM_AT(qsm_receiver, last1, 14, 1);
 QSM_AT(qsm_receiver, last2, 15, 1); QSM_AT(qsm_receiver, last3, 16, 1); QSM_AT(qsm_receiver, idle, 17, 1);

@@ -30,6 +30,10 @@ pub struct Receiver {
     /// Ones among the samples that vote.
     ones: u8,
     noise: u8,
+    /// The last bit decided; the start bit counts as a zero.
+    last_one: bool,
+    /// An adjustment has set RT1 of this bit.
+    adjusted: bool,
     word: u16,
     idle_count: u8,
     /// A frame has entered SCDR since the idle count was last full.
@@ -59,6 +63,9 @@ impl Receiver {
         if self.rt == 0 {
             return self.search(level, three_ones);
         }
+        if three_ones && !level && self.adjust(data_bits) {
+            return Heard::Nothing;
+        }
         self.next_rt();
         match self.rt {
             3 | 5 | 7 if self.bit == 0 => self.verify_start(level),
@@ -76,6 +83,8 @@ impl Receiver {
         self.bit = 0;
         self.ones = 0;
         self.noise = 0;
+        self.last_one = false;
+        self.adjusted = false;
         self.word = 0;
         Heard::Start
     }
@@ -84,9 +93,26 @@ impl Receiver {
         if self.rt == 16 {
             self.rt = 1;
             self.bit += 1;
+            self.adjusted = false;
         } else {
             self.rt += 1;
         }
+    }
+
+    /// A zero after three ones: in a data bit after a one it becomes RT1 of the bit that its place is near to, if that is a data bit.
+    fn adjust(&mut self, data_bits: u16) -> bool {
+        if self.bit == 0 || self.bit > data_bits || !self.last_one {
+            return false;
+        }
+        match self.rt {
+            1..=6 if !self.adjusted => {}
+            10..=15 if self.bit < data_bits => self.bit += 1,
+            _ => return false,
+        }
+        self.rt = 1;
+        self.ones = 0;
+        self.adjusted = true;
+        true
     }
 
     /// RT3, RT5, RT7 of the start bit: from two ones on it is given up, one alone is noise.
@@ -119,6 +145,7 @@ impl Receiver {
         self.noise += ones.min(3 - ones);
         if self.bit <= data_bits {
             self.word |= u16::from(majority) << (self.bit - 1);
+            self.last_one = majority;
             return Heard::Nothing;
         }
         self.rt = 0;

@@ -8,7 +8,7 @@ use Rattle.steps.specs.Iterate.{iterate}
 use Rattle.sci.specs.Flags.{flag}
 use Rattle.sci.specs.Status.{has, raise, raiseIf, fall, fallIf, markSeen, fallSeen}
 use Rattle.sci.specs.Control.{SCBR, M, bitsOf}
-use Rattle.sci.specs.Framer.{framed}
+use Rattle.sci.specs.Framer.{fixed, framed}
 use Rattle.sci.specs.Receiver.{outcome, entered, statusAfter, receiverAfter, received}
 use Rattle.sci.specs.Transmitter.{beginsFrame, sent}
 use Rattle.sci.specs.Serial.{resetSci, due, sampled, clocked, wroteSccr0, wroteSccr1, sccr0Guarded, sccr1Guarded}
@@ -58,7 +58,7 @@ at-b =
     ∙ ap (step (wire.clock true)) start
 
 matched : Matched begunHalves
-unfolding sci.run sci.step wroteSccr0 wroteSccr1 sccr0Guarded sccr1Guarded has raise raiseIf fallIf step clocked sampled sent received receiverAfter outcome statusAfter entered framed
+unfolding sci.run sci.step wroteSccr0 wroteSccr1 sccr0Guarded sccr1Guarded has raise raiseIf fallIf step clocked sampled sent received receiverAfter outcome statusAfter entered framed fixed
 matched =
     record {
       rate = refl;

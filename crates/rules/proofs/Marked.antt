@@ -6,7 +6,7 @@ use Prim.Native.Nat.{ℕ, _-_, _≤_}
 use native.Mathlib.Omega.{arith}
 use lib.ListN.{take, drop}
 use Rattle.sci.specs.Status.{has, raise, raiseIf, fall, fallIf, markSeen, fallSeen}
-use Rattle.sci.specs.Framer.{startBit, dataBit, stopBit, framed}
+use Rattle.sci.specs.Framer.{startBit, dataBit, stopBit, fixed, framed}
 use Rattle.sci.specs.Receiver.{outcome, raised, entered, statusAfter, receiverAfter, received}
 use Rattle.sci.specs.Transmitter.{sent}
 use Rattle.sci.specs.Serial.{sampled, wroteSccr1}
@@ -34,31 +34,31 @@ use Rattle.trace.proofs.Playing.{one-on, play-none}
 use Rattle.rules.specs.Marked.{trace, answers, K12, Marked}
 
 k1 : K1 ≡ true
-unfolding has raise raiseIf fall fallIf markSeen fallSeen startBit dataBit stopBit framed outcome raised entered statusAfter receiverAfter received sent sampled wroteSccr1 samples
+unfolding has raise raiseIf fall fallIf markSeen fallSeen startBit dataBit stopBit framed fixed outcome raised entered statusAfter receiverAfter received sent sampled wroteSccr1 samples
 k1 = refl
 
 k2 : K2 ≡ true
-unfolding has raise raiseIf fall fallIf markSeen fallSeen startBit dataBit stopBit framed outcome raised entered statusAfter receiverAfter received sent sampled wroteSccr1 samples
+unfolding has raise raiseIf fall fallIf markSeen fallSeen startBit dataBit stopBit framed fixed outcome raised entered statusAfter receiverAfter received sent sampled wroteSccr1 samples
 k2 = refl
 
 k3 : K3 ≡ true
-unfolding has raise raiseIf fall fallIf markSeen fallSeen startBit dataBit stopBit framed outcome raised entered statusAfter receiverAfter received sent sampled wroteSccr1 samples
+unfolding has raise raiseIf fall fallIf markSeen fallSeen startBit dataBit stopBit framed fixed outcome raised entered statusAfter receiverAfter received sent sampled wroteSccr1 samples
 k3 = refl
 
 k4 : K4 ≡ true
-unfolding has raise raiseIf fall fallIf markSeen fallSeen startBit dataBit stopBit framed outcome raised entered statusAfter receiverAfter received sent sampled wroteSccr1 samples
+unfolding has raise raiseIf fall fallIf markSeen fallSeen startBit dataBit stopBit framed fixed outcome raised entered statusAfter receiverAfter received sent sampled wroteSccr1 samples
 k4 = refl
 
 k5 : K5 ≡ true
-unfolding has raise raiseIf fall fallIf markSeen fallSeen startBit dataBit stopBit framed outcome raised entered statusAfter receiverAfter received sent sampled wroteSccr1 samples
+unfolding has raise raiseIf fall fallIf markSeen fallSeen startBit dataBit stopBit framed fixed outcome raised entered statusAfter receiverAfter received sent sampled wroteSccr1 samples
 k5 = refl
 
 k6 : K6 ≡ true
-unfolding has raise raiseIf fall fallIf markSeen fallSeen startBit dataBit stopBit framed outcome raised entered statusAfter receiverAfter received sent sampled wroteSccr1 samples
+unfolding has raise raiseIf fall fallIf markSeen fallSeen startBit dataBit stopBit framed fixed outcome raised entered statusAfter receiverAfter received sent sampled wroteSccr1 samples
 k6 = refl
 
 k11 : K11 ≡ true
-unfolding has raise raiseIf fall fallIf markSeen fallSeen startBit dataBit stopBit framed outcome raised entered statusAfter receiverAfter received sent sampled wroteSccr1 samples
+unfolding has raise raiseIf fall fallIf markSeen fallSeen startBit dataBit stopBit framed fixed outcome raised entered statusAfter receiverAfter received sent sampled wroteSccr1 samples
 k11 = refl
 
 -- The two records, one after the other.

@@ -10,7 +10,7 @@ use lib.Seq.{getD-append-add, getD-at}
 use Rattle.steps.specs.Bits.{bit}
 use Rattle.sci.specs.Control.{PT, PE, M, bitsOf}
 use Rattle.sci.specs.Bits.{parityBit}
-use Rattle.sci.specs.Framer.{searching, ends, frameOf, framed, stopBit}
+use Rattle.sci.specs.Framer.{searching, ends, frameOf, fixed, framed, stopBit}
 use Rattle.sci.specs.Receiver.{three, full, receiverAfter, received}
 use Rattle.sci.specs.Levels.{value, frameLevels, endSample}
 use Rattle.sci.specs.Link.{Delivered, NoError}
@@ -78,7 +78,7 @@ module _ (c g : ℕ) (bits : List Bool) (sized : bitsOf (M c) ≡ length bits) (
         }
 
     pub searches-again : p′ .receiver .framer ≡ searching
-    unfolding received receiverAfter framed stopBit
+    unfolding received receiverAfter framed fixed stopBit
     searches-again =
         ap₂ (λ (f : Framer) (b : Bool). framed (bitsOf (M c)) f (three (p .receiver)) b) stands one
 

@@ -6,7 +6,7 @@ use Prim.Native.Nat.{ℕ, zero, suc}
 use lib.ListN.{replicate}
 use Rattle.sci.specs.Flags.{flag}
 use Rattle.sci.specs.Status.{has, raiseIf, fallIf}
-use Rattle.sci.specs.Framer.{searching, framed}
+use Rattle.sci.specs.Framer.{searching, fixed, framed}
 use Rattle.sci.specs.Receiver.{outcome, entered, statusAfter, receiverAfter, received}
 use Rattle.sci.specs.Transmitter.{sent}
 use Rattle.sci.specs.Serial.{sampled, clocked}
@@ -67,7 +67,7 @@ unfolding has step clocksIn clocked sampled
 one-sends = record { begins = record { sample = refl; frame = refl }; unchanged = all-clocks 307 (begun one two); last = refl }
 
 one-match : Matched (begun one two)
-unfolding has step clocked sampled sent received receiverAfter outcome statusAfter entered framed raiseIf fallIf
+unfolding has step clocked sampled sent received receiverAfter outcome statusAfter entered framed fixed raiseIf fallIf
 one-match =
     record {
       rate = refl;

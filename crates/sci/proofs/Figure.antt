@@ -8,8 +8,8 @@ use lib.Dec.{ltb}
 use lib.ListN.{length, drop}
 use Rattle.steps.specs.Bits.{digit}
 use Rattle.sci.specs.Bits.{vote, majority, disagreed, onesOf}
-use Rattle.sci.specs.Framer.{more, searching, begun, ends, frameOf, collected, framed}
-use Rattle.sci.specs.Levels.{endSample, framerAfter}
+use Rattle.sci.specs.Framer.{more, searching, begun, ends, frameOf, collected, fixed, framed}
+use Rattle.sci.specs.Levels.{endSample, framerAfter, Unmoved}
 use Rattle.sci.specs.Figure.{rt, startOnes, disagreements, figure, Stands, FrameFigure}
 use Rattle.sci.specs.declared.framer.Framer.{Framer}
 use Rattle.sci.proofs.Votes.{disagreed-small, digit-small}
@@ -134,8 +134,12 @@ few-ones a b c d e f v =
 -- A zero after three ones is RT1.
 begins-frame : (n : ℕ) (xs : List Bool) →
     framerAfter n true true true searching (false ∷ xs) ≡ framerAfter n false true true (begun n) xs
-unfolding framerAfter framed
+unfolding framerAfter framed fixed
 begins-frame n xs = refl
+
+first-unmoved : (n : ℕ) (xs : List Bool) → Unmoved n true true true searching (false ∷ xs) → Unmoved n false true true (begun n) xs
+unfolding Unmoved framed fixed
+first-unmoved n xs u = u .1
 
 -- The whole frame.
 pub frame-figure : FrameFigure
@@ -155,7 +159,7 @@ frame-figure n xs x k t = go xs (whole-bit xs (omega (arith, t .whole))) t
         let w : Walk n (x2 ∷ x3 ∷ x4 ∷ x5 ∷ x6 ∷ x7 ∷ x8 ∷ x9 ∷ x10 ∷ x11 ∷ x12 ∷ x13 ∷ x14 ∷ x15 ∷ x16 ∷ xs) (begun n) last =
         walk-start {g = last} n x2 x3 x4 x5 x6 x7 x8 x9 x10 x11 x12 x13 x14 x15 x16 xs (t .stands) (rw (start-sum x3 x5 x7 x8 x9 x10) (r .walk)) in
         let e : framerAfter n true true true searching (false ∷ x2 ∷ x3 ∷ x4 ∷ x5 ∷ x6 ∷ x7 ∷ x8 ∷ x9 ∷ x10 ∷ x11 ∷ x12 ∷ x13 ∷ x14 ∷ x15 ∷ x16 ∷ xs) ≡ last =
-        begins-frame n (x2 ∷ x3 ∷ x4 ∷ x5 ∷ x6 ∷ x7 ∷ x8 ∷ x9 ∷ x10 ∷ x11 ∷ x12 ∷ x13 ∷ x14 ∷ x15 ∷ x16 ∷ xs) ∙ along false true true w in
+        begins-frame n (x2 ∷ x3 ∷ x4 ∷ x5 ∷ x6 ∷ x7 ∷ x8 ∷ x9 ∷ x10 ∷ x11 ∷ x12 ∷ x13 ∷ x14 ∷ x15 ∷ x16 ∷ xs) ∙ along false true true w (first-unmoved n _ (t .unmoved)) in
         let few₁ : disagreed (r .a) (r .c) x ≤ 1 = disagreed-small (r .a) (r .c) x in (
           ap ends e,
           ap (λ (f : Framer). frameOf f x .noise) e ∙ held (r .noise) (disagreed (r .a) (r .c) x) (omega (arith, r .small)) ∙ r .total,

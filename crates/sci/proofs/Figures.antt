@@ -5,7 +5,7 @@ use mathlib.Core.List.{List, [], _∷_, _++_}
 use mathlib.Core.Path.{_≡_, refl, ap, sym, _∙_}
 use native.Mathlib.Omega.{arith}
 use lib.Dec.{eqb, ltb}
-use borrow.Author.Tests.{lt-ltb}
+use borrow.Author.Tests.{lt-ltb, not-true}
 use lib.ListN.{drop}
 use Rattle.steps.specs.Bits.{digit, merge}
 use Rattle.sci.specs.Flags.{PF, FE, NF, OR, IDLE, RAF, RDRF}
@@ -13,18 +13,21 @@ use Rattle.sci.specs.Members.{member}
 use Rattle.sci.specs.Status.{has, raise, raiseIf}
 use Rattle.sci.specs.Control.{RE, PE, PT, sccr0Bits}
 use Rattle.sci.specs.Bits.{disagreed, parityBit}
-use Rattle.sci.specs.Framer.{frameOf}
+use Rattle.sci.specs.Framer.{searching, frameOf, startBit, dataBit, stopBit, fixed, adjusts, framed}
 use Rattle.sci.specs.Receiver.{outcome, raised, entered, statusAfter, receiverAfter, received}
 use Rattle.sci.specs.Transmitter.{sent}
 use Rattle.sci.specs.Serial.{active, due, heard, afterSent, sampled, prescaled, clocked, sccr1Word, stopped, withSccr1, dataWritten, sccr0Set, wroteSccr0, wroteSccr1, sccr0Guarded, sccr1Guarded}
 use Rattle.sci.specs.History.{Step, reset, clock, reads, writesSccr0, writesSccr1, writesScdr, step}
-use Rattle.sci.specs.Figure.{rt, startOnes, disagreements, figure, mixed, anyMixed, noisy, enters, withSum, figureAfter, Figures}
+use Rattle.sci.specs.Figure.{rt, startOnes, disagreements, figure, mixed, anyMixed, noisy, enters, withSum, figureAfter, noisiest, Figures}
+use Rattle.sci.specs.Levels.{Unmoved}
 use Rattle.sci.specs.declared.status.Status.{Status}
+use Rattle.sci.specs.declared.framer.Framer.{Framer}
 use Rattle.sci.specs.declared.framer.Frame.{Frame}
 use Rattle.sci.specs.declared.receiver.Receiver.{Receiver}
 use Rattle.sci.specs.declared.receiver.Outcome.{Outcome}
 use Rattle.sci.specs.declared.receiver.Received.{Received}
 use Rattle.sci.specs.declared.serial.Sci.{Sci}
+use Rattle.sci.proofs.Membership.{and-left, and-right}
 use Rattle.sci.proofs.Flagged.{isSet, has-flag, set-raise, set-raiseIf, set-fallIf, raise-keeps}
 use Rattle.sci.proofs.Samples.{status-set}
 use Rattle.sci.proofs.Figure.{frame-figure}
@@ -195,12 +198,30 @@ after (writesSccr1 v upper lower) s =
     kept-if (sccr1Guarded s v upper lower) s (wroteSccr1 s v upper lower) (after-sccr1 s v upper lower)
 after (writesScdr v upper lower) s = after-data lower s v upper
 
+-- No sample makes an adjustment, as one test.
+still : ℕ → Bool → Bool → Bool → Framer → List Bool → Bool
+still n a b c f [] = true
+still n a b c f (x ∷ xs) = not (adjusts n f (a && b && c) x) && still n x a b (framed n f (a && b && c) x) xs
+
+unmoved-by : (n : ℕ) (a b c : Bool) (f : Framer) (xs : List Bool) → still n a b c f xs ≡ true → Unmoved n a b c f xs
+unfolding still Unmoved
+unmoved-by n a b c f [] h = tt
+unmoved-by n a b c f (x ∷ xs) h =
+    let q : Bool = adjusts n f (a && b && c) x in (
+      not-true q (and-left (not q) _ h),
+      unmoved-by n x a b (framed n f (a && b && c) x) xs (and-right (not q) _ h),
+    )
+
+noisiest-unmoved : Unmoved 9 true true true searching (noisiest 9)
+unfolding still framed fixed startBit dataBit stopBit
+noisiest-unmoved = unmoved-by 9 true true true searching (noisiest 9) refl
+
 pub figures : Figures
 unfolding disagreements
 figures =
     record {
       frame = frame-figure;
-      standing = record { whole = refl; begins = refl; stands = refl };
+      standing = record { whole = refl; begins = refl; stands = refl; unmoved = noisiest-unmoved };
       largest = refl;
       rises = rises;
       asBefore = as-before;

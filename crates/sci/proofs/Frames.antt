@@ -1,14 +1,15 @@
 -- One sample of the framer: RT stays within its bit, and a frame comes one sample nearer to its end.
-use mathlib.Core.Path.{_≡_, refl}
+use mathlib.Core.Path.{_≡_, refl, sym, _∙_}
 use mathlib.Core.Bool.{Bool, true, false, cond, not, _&&_, _||_, true≢false, false≢true}
 use Prim.Native.Nat.{ℕ, suc, _+_, _-_, _*_, _%_, _≤_, _<_}
 use native.Mathlib.Omega.{arith}
-use lib.Dec.{eqb, leb}
-use borrow.Author.Tests.{eqb-true, eqb-false}
+use lib.Dec.{eqb, leb, ltb}
+use borrow.Author.Tests.{eqb-true, eqb-false, ltb-true, not-true}
 use Rattle.sci.specs.Bits.{vote, onesOf}
-use Rattle.sci.specs.Framer.{more, searching, ends, searched, judged, startBit, dataBit, stopBit, inBit, framed}
+use Rattle.sci.specs.Framer.{more, searching, ends, searched, judged, startBit, dataBit, stopBit, inBit, fixed, afterOne, nearNext, nearThis, earlyFall, lateFall, adjusts, adjusted, framed}
 use Rattle.sci.specs.Sound.{span, togo, Fits}
 use Rattle.sci.specs.declared.framer.Framer.{Framer}
+use Rattle.sci.proofs.Membership.{and-left, and-right}
 
 pub by-cond : {A : Type 0} (P : A → Type 0) (b : Bool) {x y : A} → (b ≡ true → P x) → (b ≡ false → P y) → P (cond b x y)
 by-cond P true f g = f refl
@@ -20,8 +21,8 @@ pub record Moved (n : ℕ) (f : Framer) (x : Bool) (g : Framer) : Type 0 where
   pub onward : x ≡ true → 0 < togo n g → suc (togo n g) ≡ togo n f
   pub over : ends f ≡ true → (togo n f ≡ 1) × (togo n g ≡ 0)
 
-abbrev at : Bool → Bool → ℕ → ℕ → Bool → Bool → ℕ → ℕ → Framer
-at framing starting left rt first second noise shift =
+abbrev at : Bool → Bool → ℕ → ℕ → Bool → Bool → ℕ → Bool → ℕ → Framer
+at framing starting left rt first second noise moved shift =
     record {
       framing = framing;
       starting = starting;
@@ -30,6 +31,7 @@ at framing starting left rt first second noise shift =
       first = first;
       second = second;
       noise = noise;
+      moved = moved;
       shift = shift;
     }
 
@@ -38,26 +40,26 @@ fits-searching n =
     record { rests = λ e. refl; early = λ e h. absurd (false≢true e); late = λ e h. absurd (false≢true e) }
 
 -- A frame that runs, in its start bit and past it.
-fits-early : (n rt : ℕ) (first second : Bool) (noise shift : ℕ) → 0 < rt → rt < 16 →
-    Fits n (at true true n rt first second noise shift)
-fits-early n rt first second noise shift g h =
+fits-early : (n rt : ℕ) (first second : Bool) (noise : ℕ) (moved : Bool) (shift : ℕ) → 0 < rt → rt < 16 →
+    Fits n (at true true n rt first second noise moved shift)
+fits-early n rt first second noise moved shift g h =
     record { rests = λ e. absurd (true≢false e); early = λ e k. (g, h, refl); late = λ e k. absurd (true≢false k) }
 
-fits-late : (n left rt : ℕ) (first second : Bool) (noise shift : ℕ) → rt % 16 < 16 * left + 10 → left ≤ n →
-    Fits n (at true false left rt first second noise shift)
-fits-late n left rt first second noise shift g h =
+fits-late : (n left rt : ℕ) (first second : Bool) (noise : ℕ) (moved : Bool) (shift : ℕ) → rt % 16 < 16 * left + 10 → left ≤ n →
+    Fits n (at true false left rt first second noise moved shift)
+fits-late n left rt first second noise moved shift g h =
     record { rests = λ e. absurd (true≢false e); early = λ e k. absurd (false≢true k); late = λ e k. (g, h) }
 
-module _ (n rt : ℕ) (first second : Bool) (noise shift : ℕ) (x : Bool) (g : 0 < rt) (h : rt < 16) where
+module _ (n rt : ℕ) (first second : Bool) (noise : ℕ) (moved : Bool) (shift : ℕ) (x : Bool) (g : 0 < rt) (h : rt < 16) where
   abbrev start : Framer
-  start = at true true n rt first second noise shift
+  start = at true true n rt first second noise moved shift
 
   -- The next sample of the start bit.
   start-on : (first′ second′ : Bool) (noise′ : ℕ) → (rt % 16 + 1 ≡ 16 → ⊥) →
-      Moved n start x (at true true n (rt % 16 + 1) first′ second′ noise′ shift)
+      Moved n start x (at true true n (rt % 16 + 1) first′ second′ noise′ moved shift)
   start-on first′ second′ noise′ e =
       record {
-        fits = fits-early n (rt % 16 + 1) first′ second′ noise′ shift (omega arith) (omega arith);
+        fits = fits-early n (rt % 16 + 1) first′ second′ noise′ moved shift (omega arith) (omega arith);
         onward = λ k z. omega arith;
         over = λ k. absurd (false≢true k);
       }
@@ -67,15 +69,15 @@ module _ (n rt : ℕ) (first second : Bool) (noise shift : ℕ) (x : Bool) (g : 
       record { fits = fits-searching n; onward = λ k z. absurd (omega arith); over = λ k. absurd (false≢true k) }
   start-judged false ones e =
       record {
-        fits = fits-early n 7 first second (more noise ones) shift (omega arith) (omega arith);
+        fits = fits-early n 7 first second (more noise ones) moved shift (omega arith) (omega arith);
         onward = λ k z. omega arith;
         over = λ k. absurd (false≢true k);
       }
 
-  start-over : rt % 16 + 1 ≡ 16 → Moved n start x (at true false n (rt % 16 + 1) first second noise shift)
+  start-over : rt % 16 + 1 ≡ 16 → Moved n start x (at true false n (rt % 16 + 1) first second noise moved shift)
   start-over e =
       record {
-        fits = fits-late n n (rt % 16 + 1) first second noise shift (omega arith) (omega arith);
+        fits = fits-late n n (rt % 16 + 1) first second noise moved shift (omega arith) (omega arith);
         onward = λ k z. omega arith;
         over = λ k. absurd (false≢true k);
       }
@@ -95,16 +97,16 @@ module _ (n rt : ℕ) (first second : Bool) (noise shift : ℕ) (x : Bool) (g : 
       (λ v. start-on first second _ (eqb-false _ _ e))
       (λ v. start-on first second noise (eqb-false _ _ e))))))
 
-module _ (n left rt : ℕ) (first second : Bool) (noise shift : ℕ) (x : Bool) (h : left ≤ n) where
+module _ (n left rt : ℕ) (first second : Bool) (noise : ℕ) (moved : Bool) (shift : ℕ) (x : Bool) (h : left ≤ n) where
   abbrev late : Framer
-  late = at true false left rt first second noise shift
+  late = at true false left rt first second noise moved shift
 
   -- The next sample of a data bit, or of the stop bit before its RT10.
   late-on : (first′ second′ : Bool) (noise′ shift′ : ℕ) → rt % 16 + 1 < 16 → rt % 16 + 1 < 16 * left + 10 →
-      Moved n late x (at true false left (rt % 16 + 1) first′ second′ noise′ shift′)
+      Moved n late x (at true false left (rt % 16 + 1) first′ second′ noise′ moved shift′)
   late-on first′ second′ noise′ shift′ g k =
       record {
-        fits = fits-late n left (rt % 16 + 1) first′ second′ noise′ shift′ (omega arith) h;
+        fits = fits-late n left (rt % 16 + 1) first′ second′ noise′ moved shift′ (omega arith) h;
         onward = λ e z. omega arith;
         over = λ e. not-over (eqb left 0) (eqb rt 9) e (eqb-true left 0) (eqb-true rt 9);
       }
@@ -117,10 +119,10 @@ module _ (n left rt : ℕ) (first second : Bool) (noise shift : ℕ) (x : Bool) 
 
   -- The last sample of a data bit.
   data-over : 0 < left → rt % 16 + 1 ≡ 16 →
-      Moved n late x (at true false (left - 1) (rt % 16 + 1) first second noise shift)
+      Moved n late x (at true false (left - 1) (rt % 16 + 1) first second noise false shift)
   data-over g k =
       record {
-        fits = fits-late n (left - 1) (rt % 16 + 1) first second noise shift (omega arith) (omega arith);
+        fits = fits-late n (left - 1) (rt % 16 + 1) first second noise false shift (omega arith) (omega arith);
         onward = λ e z. omega arith;
         over = λ e. absurd (not-over (eqb left 0) (eqb rt 9) e (eqb-true left 0));
       }
@@ -170,7 +172,7 @@ search-moved : (n : ℕ) (three x : Bool) (f : Framer) → f .framing ≡ false 
     Moved n f x (searched (three && not x) f n)
 search-moved n true false f e i =
     record {
-      fits = fits-early n 1 false false 0 0 (omega arith) (omega arith);
+      fits = fits-early n 1 false false 0 false 0 (omega arith) (omega arith);
       onward = λ k z. absurd (false≢true k);
       over = λ k. absurd (false≢true (rw e at k));
     }
@@ -187,23 +189,87 @@ search-moved n false x f e i =
       over = λ k. absurd (false≢true (rw e at k));
     }
 
-moved-at : (n : ℕ) (framing starting : Bool) (left rt : ℕ) (first second : Bool) (noise shift : ℕ) (three x : Bool) →
-    Fits n (at framing starting left rt first second noise shift) →
-    Moved n (at framing starting left rt first second noise shift) x
-    (framed n (at framing starting left rt first second noise shift) three x)
-unfolding framed
-moved-at n true true left rt first second noise shift three x i =
+-- A sample that makes no adjustment.
+fixed-at : (n : ℕ) (framing starting : Bool) (left rt : ℕ) (first second : Bool) (noise : ℕ) (moved : Bool) (shift : ℕ) (three x : Bool) →
+    Fits n (at framing starting left rt first second noise moved shift) →
+    Moved n (at framing starting left rt first second noise moved shift) x
+    (fixed n (at framing starting left rt first second noise moved shift) three x)
+unfolding fixed
+fixed-at n true true left rt first second noise moved shift three x i =
     let t = i .early refl refl in
-    rw (t .2) (start-moved n rt first second noise shift x (t .0) (t .1))
-moved-at n true false left rt first second noise shift three x i =
+    rw (t .2) (start-moved n rt first second noise moved shift x (t .0) (t .1))
+fixed-at n true false left rt first second noise moved shift three x i =
     let t = i .late refl refl in
-    late-moved n left rt first second noise shift x (t .1) (eqb left 0) refl (t .0)
-moved-at n false starting left rt first second noise shift three x i =
-    search-moved n three x (at false starting left rt first second noise shift) refl i
+    late-moved n left rt first second noise moved shift x (t .1) (eqb left 0) refl (t .0)
+fixed-at n false starting left rt first second noise moved shift three x i =
+    search-moved n three x (at false starting left rt first second noise moved shift) refl i
+
+-- An adjustment comes with a zero, in a data bit.
+pub record Adjusting (f : Framer) (x : Bool) : Type 0 where
+  pub zero : x ≡ false
+  pub framing : f .framing ≡ true
+  pub starting : f .starting ≡ false
+  pub data-bit : 0 < f .left
+
+early-data : (f : Framer) → earlyFall f ≡ true → 0 < f .left
+early-data f e = omega (arith, ltb-true 1 (f .left) (and-right (nearNext f) (ltb 1 (f .left)) e))
+
+late-data : (f : Framer) → lateFall f ≡ true → 0 < f .left
+late-data f e =
+    ltb-true 0 (f .left) (and-right (nearThis f) (ltb 0 (f .left)) (and-left (nearThis f && ltb 0 (f .left)) (not (f .moved)) e))
+
+pub adjusting : (n : ℕ) (f : Framer) (three x : Bool) → adjusts n f three x ≡ true → Adjusting f x
+adjusting n f three x e =
+    let b : Bool = not x && three && f .framing in
+    let a : Bool = b && not (f .starting) && afterOne n f in
+    let u : b && not (f .starting) ≡ true = and-left (b && not (f .starting)) (afterOne n f) (and-left a (earlyFall f || lateFall f) e) in
+    let v : b ≡ true = and-left b (not (f .starting)) u in
+    record {
+      zero = not-true x (and-left (not x) three (and-left (not x && three) (f .framing) v));
+      framing = and-right (not x && three) (f .framing) v;
+      starting = not-true (f .starting) (and-right b (not (f .starting)) u);
+      data-bit = either (earlyFall f) (lateFall f) (and-right a (earlyFall f || lateFall f) e) (early-data f) (late-data f);
+    }
+  where
+    either : (a b : Bool) → a || b ≡ true → (a ≡ true → 0 < f .left) → (b ≡ true → 0 < f .left) → 0 < f .left
+    either true b e g h = g refl
+    either false true e g h = h refl
+    either false false e g h = absurd (false≢true e)
+
+-- It leaves RT1 of a data bit.
+adjusted-moved : (n : ℕ) (f : Framer) (x : Bool) → Adjusting f x → Fits n f → Moved n f x (adjusted f)
+adjusted-moved n f x a i =
+    let d : 0 < f .left = a .data-bit in
+    let t = i .late (a .framing) (a .starting) in
+    let less : adjusted f .left ≤ f .left = not-more (earlyFall f) in
+    record {
+      fits =
+          record {
+            rests = λ e. absurd (true≢false (sym (a .framing) ∙ e));
+            early = λ e k. absurd (false≢true (sym (a .starting) ∙ k));
+            late = λ e k. (omega arith, omega arith);
+          };
+      onward = λ k z. absurd (false≢true (sym (a .zero) ∙ k));
+      over = λ k. absurd (not-over (ends-left k) d);
+    }
+  where
+    not-more : (b : Bool) → cond b (f .left - 1) (f .left) ≤ f .left
+    not-more true = omega arith
+    not-more false = omega arith
+
+    ends-left : ends f ≡ true → f .left ≡ 0
+    ends-left k =
+        eqb-true (f .left) 0 (and-right (f .framing && not (f .starting)) _ (and-left (f .framing && not (f .starting) && eqb (f .left) 0) _ k))
+
+    not-over : f .left ≡ 0 → 0 < f .left → ⊥
+    not-over e d = omega arith
 
 pub moved : (n : ℕ) (f : Framer) (three x : Bool) → Fits n f → Moved n f x (framed n f three x)
+unfolding framed
 moved n f three x i =
-    moved-at n (f .framing) (f .starting) (f .left) (f .rt) (f .first) (f .second) (f .noise) (f .shift) three x i
+    by-cond (Moved n f x) (adjusts n f three x) (λ e. adjusted-moved n f x (adjusting n f three x e) i)
+    (λ e.
+    fixed-at n (f .framing) (f .starting) (f .left) (f .rt) (f .first) (f .second) (f .noise) (f .moved) (f .shift) three x i)
 
 -- A frame that runs has begun: its end is nearer than a whole frame.
 pub within : (n : ℕ) (f : Framer) → Fits n f → togo n f < span n

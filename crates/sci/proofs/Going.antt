@@ -4,13 +4,13 @@
 use Prim.Native.Nat.{ℕ, zero, suc, _+_, _≤_, _<_}
 use mathlib.Core.Bool.{Bool, true, false, _&&_}
 use mathlib.Core.List.{List, [], _∷_, _++_}
-use mathlib.Core.Path.{_≡_, refl, ap, ap₂, subst, _∙_}
+use mathlib.Core.Path.{_≡_, refl, ap, ap₂, sym, subst, _∙_}
 use native.Mathlib.Omega.{arith}
 use native.Mathlib.Decide.{decLt}
 use lib.Seq.{getD-append-add}
 use lib.ListN.{replicate, length, getD, List·getD-append, getD-replicate, length-replicate}
 use Rattle.sci.specs.Control.{M, bitsOf, frameSamples}
-use Rattle.sci.specs.Framer.{searching, ends, framed}
+use Rattle.sci.specs.Framer.{searching, ends, fixed, framed}
 use Rattle.sci.specs.Receiver.{three, receiverAfter, received}
 use Rattle.sci.specs.Levels.{stretched, frameLevels, framerAfter, endSample}
 use Rattle.sci.specs.Line.{Op, sample, read, act, acts, readStatus}
@@ -32,21 +32,22 @@ lineOf g bits = replicate g true ++ frameLevels bits
 -- After k samples of it the framer stands at `after n line k`, and the next sample takes it on.
 pub record On (n g : ℕ) (line : List Bool) (k : ℕ) : Type 0 where
   pub quiet : ends (after n line k) ≡ false
-  pub steps : (three : Bool) → (k ≤ g → three ≡ true) → framed n (after n line k) three (getD line k true) ≡ after n line (suc k)
+  pub steps : (three : Bool) → (k ≤ g → three ≡ true) → ((j : ℕ) → k ≡ suc j → three ≡ true → getD line j true ≡ true) →
+      framed n (after n line k) three (getD line k true) ≡ after n line (suc k)
 
 pub on-line : (n g : ℕ) (bits : List Bool) (k : ℕ) → n ≡ length bits → k < g + endSample n → On n g (lineOf g bits) k
-unfolding framerAfter framed
+unfolding framerAfter framed fixed
 on-line n zero bits k e h =
     let a : At n (frameLevels bits) k = at n bits k e (omega arith) in
-    record { quiet = a .quiet; steps = λ three i. a .steps three (λ z. i (omega arith)) }
-on-line n (suc g) bits zero e h = record { quiet = refl; steps = λ three i. rw (i (omega arith)) }
+    record { quiet = a .quiet; steps = λ three i p. a .steps three (λ z. i (omega arith)) p }
+on-line n (suc g) bits zero e h = record { quiet = refl; steps = λ three i p. rw (i (omega arith)) }
 on-line n (suc g) bits (suc k) e h =
     let a : On n g (lineOf g bits) k = on-line n g bits k e (omega arith) in
-    record { quiet = a .quiet; steps = λ three i. a .steps three (λ z. i (omega arith)) }
+    record { quiet = a .quiet; steps = λ three i p. a .steps three (λ z. i (omega arith)) (λ j q. p (suc j) (omega arith)) }
 
 -- Past the ones.
 pub after-ones : (n g : ℕ) (bits : List Bool) (k : ℕ) → after n (lineOf g bits) (g + k) ≡ after n (frameLevels bits) k
-unfolding framerAfter framed
+unfolding framerAfter framed fixed
 after-ones n zero bits k =
     let e : 0 + k ≡ k = omega arith in
     ap (after n (frameLevels bits)) e
@@ -73,7 +74,9 @@ pub hear : (g : ℕ) (line : List Bool) (k : ℕ) (r : Receiver) (s : Status) (c
 unfolding received receiverAfter
 hear g line k r s c x h a o e =
     record {
-      framer = ap₂ (λ (f : Framer) (y : Bool). framed (bitsOf (M c)) f (three r) y) (h .framer) e ∙ a .steps (three r) (h .ones);
+      framer = ap₂ (λ (f : Framer) (y : Bool). framed (bitsOf (M c)) f (three r) y) (h .framer) e
+          ∙ a .steps (three r) (h .ones)
+          (λ j q t. sym (h .last1 j q) ∙ and-left (r .last1) (r .last2) (and-left (r .last1 && r .last2) (r .last3) t));
       ones = λ l.
           let t : three r ≡ true = h .ones (omega arith) in
           let t1 : r .last1 ≡ true = and-left (r .last1) (r .last2) (and-left (r .last1 && r .last2) (r .last3) t) in

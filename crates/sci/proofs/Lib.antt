@@ -53,3 +53,4 @@ pub mod SerialClauses
 pub mod Clauses
 pub mod Figure
 pub mod Figures
+pub mod Moves

@@ -1,13 +1,13 @@
 -- Samples that change little: there `received` and `sent` come to the short forms.
 use Prim.Native.Nat.{ℕ, _+_, _/_, _%_, _<_}
-use mathlib.Core.Bool.{Bool, true, false, not, cond, _&&_, _||_, and-true, and-false, or-false}
+use mathlib.Core.Bool.{Bool, true, false, not, cond, _&&_, _||_, and-true, and-false, false≢true}
 use mathlib.Core.Path.{_≡_, refl, sym}
 use native.Mathlib.Omega.{arith}
 use lib.Dec.{eqb, leb}
 use borrow.Author.Tests.{ne-eqb, eqb-false, leb-true, not-true}
 use Rattle.steps.specs.Bits.{bit}
 use Rattle.sci.specs.Control.{M, TIE, TCIE, RIE, ILIE, RE, bitsOf}
-use Rattle.sci.specs.Framer.{begins, abandons, ends, searched, atRt, startBit, dataBit, stopBit, inBit, nextRt, framed}
+use Rattle.sci.specs.Framer.{begins, abandons, ends, searched, atRt, startBit, dataBit, stopBit, inBit, nextRt, fixed, adjusts, framed}
 use Rattle.sci.specs.Status.{raiseIf, fallIf}
 use Rattle.sci.specs.Receiver.{three, reaches, outcome, entered, statusAfter, receiverAfter, received}
 use Rattle.sci.specs.Transmitter.{beginsPreamble, beginsFrame, ends as ended, sent}
@@ -99,15 +99,27 @@ no-start false true true h = refl
 no-start false true false h = sym h
 no-start false false x h = refl
 
+-- At no zero after three ones is there an adjustment.
+no-fall : (n : ℕ) (f : Framer) (ones x : Bool) → (not ones || x) ≡ true → adjusts n f ones x ≡ false
+no-fall n f ones true h = refl
+no-fall n f true false h = absurd (false≢true h)
+no-fall n f false false h = refl
+
+not-busy : (framing b : Bool) → not (framing && b) ≡ true → framing ≡ true → b ≡ false
+not-busy true b h e = not-true b h
+not-busy false b h e = absurd (false≢true e)
+
 moves : (n : ℕ) (f : Framer) (ones x : Bool) → rests f ones x ≡ true → framed n f ones x ≡ rested f
-unfolding rests rested framed
-moves n f ones x h = go (f .framing) h
+unfolding rests rested framed fixed
+moves n f ones x h =
+    let level : (not ones || x) ≡ true = first (not ones || x) _ h in
+    rw (no-fall n f ones x level) (go (f .framing) level (not-busy (f .framing) (busy (f .rt)) (second (not ones || x) _ h)))
   where
-    go : (b : Bool) → cond b (not (busy (f .rt))) (not ones || x) ≡ true →
+    go : (b : Bool) → (not ones || x) ≡ true → (b ≡ true → busy (f .rt) ≡ false) →
         cond b (inBit (f .starting) (eqb (f .left) 0) n f (nextRt f) x) (searched (begins f ones x) f n)
         ≡ cond b (atRt f (nextRt f)) f
-    go true h = in-frame n f x (not-true (busy (f .rt)) h) (f .starting) (eqb (f .left) 0)
-    go false h = rw (no-start (f .framing) ones x h)
+    go true level idle = in-frame n f x (idle refl) (f .starting) (eqb (f .left) 0)
+    go false level idle = rw (no-start (f .framing) ones x level)
 
 -- What a frame does not do where it rests.
 record Resting (f : Framer) (ones x : Bool) : Type 0 where
@@ -117,17 +129,19 @@ record Resting (f : Framer) (ones x : Bool) : Type 0 where
 
 resting : (f : Framer) (ones x : Bool) → rests f ones x ≡ true → Resting f ones x
 unfolding rests
-resting f ones x h = go (f .framing) refl h
+resting f ones x h =
+    go (f .framing) refl (not-busy (f .framing) (busy (f .rt)) (second (not ones || x) _ h))
   where
-    go : (b : Bool) → f .framing ≡ b → cond b (not (busy (f .rt))) (not ones || x) ≡ true → Resting f ones x
-    go true e h =
-        let idle : busy (f .rt) ≡ false = not-true (busy (f .rt)) h in
+    go : (b : Bool) → f .framing ≡ b → (b ≡ true → busy (f .rt) ≡ false) → Resting f ones x
+    go true e quiet =
+        let idle : busy (f .rt) ≡ false = quiet refl in
         record {
-          begun = rw e;
+          begun = no-start (f .framing) ones x (first (not ones || x) _ h);
           abandoned = third (f .framing) (f .starting) (eqb (f .rt) 6) _ (not-now (f .rt) idle 6 (omega arith) refl);
           ended = rw (not-now (f .rt) idle 9 (omega arith) refl, and-false);
         }
-    go false e h = record { begun = no-start (f .framing) ones x h; abandoned = rw e; ended = rw e }
+    go false e quiet =
+        record { begun = no-start (f .framing) ones x (first (not ones || x) _ h); abandoned = rw e; ended = rw e }
 
 pub passes : (r : Receiver) (s : Status) (sccr1 : ℕ) (x : Bool) → plain r (bitsOf (M sccr1)) x ≡ true →
     _≡_ {A = Received} (record { receiver = passed r (bitsOf (M sccr1)) x; status = s }) (received r s sccr1 x)

@@ -9,7 +9,7 @@ use Rattle.sci.specs.Flags.{flag, receiveFlags, contains, common, RDRF, 
 use Rattle.sci.specs.Members.{member}
 use Rattle.sci.specs.Status.{has, raiseIf, fall, markSeen, fallSeen}
 use Rattle.sci.specs.Control.{PT, PE, M, bitsOf, settings}
-use Rattle.sci.specs.Framer.{searching, ends, frameOf, framed}
+use Rattle.sci.specs.Framer.{searching, ends, frameOf, fixed, framed}
 use Rattle.sci.specs.Bits.{parityBit}
 use Rattle.sci.specs.Receiver.{three, takes, full, outcome, entered, statusAfter, receiverAfter, received}
 use Rattle.sci.specs.Line.{Op, sample, read, act, acts, readStatus, shown, noFlag, Ones, samplesIn, resyncSamples}
@@ -77,7 +77,7 @@ unfolding statusAfter raiseIf entered
 calm-status s o f bad idles b t l i = rw (b, t, l, i) (outside-fallIf (o .abandoned || o .reached) s RAF refl)
 
 still-searching : (n : ℕ) (three : Bool) → framed n searching three true ≡ searching
-unfolding framed
+unfolding framed fixed
 still-searching n true = refl
 still-searching n false = refl
 

@@ -7,9 +7,9 @@ use native.Mathlib.Omega.{arith}
 use lib.Dec.{eqb, leb}
 use borrow.Author.Tests.{eqb-true, eqb-false, eq-eqb, ne-eqb}
 use Rattle.sci.specs.Bits.{vote, onesOf}
-use Rattle.sci.specs.Framer.{begins, abandons, ends, searched, judged, startBit, dataBit, stopBit, inBit, nextRt, framed}
+use Rattle.sci.specs.Framer.{begins, abandons, ends, searched, judged, startBit, dataBit, stopBit, inBit, nextRt, fixed, adjusts, adjusted, framed}
 use Rattle.sci.specs.declared.framer.Framer.{Framer}
-use Rattle.sci.proofs.Frames.{by-cond}
+use Rattle.sci.proofs.Frames.{by-cond, Adjusting, adjusting}
 
 pub record Turned (f : Framer) (three x : Bool) (g : Framer) : Type 0 where
   pub begun : begins f three x ≡ not (f .framing) && g .framing
@@ -110,8 +110,20 @@ search : (n : ℕ) (f : Framer) (three x : Bool) → f .rt ≤ 16 → f .framing
 search n f three x h e true u = record { begun = u ∙ rw e; abandoned = rw e; ended = rw e; within = omega arith }
 search n f three x h e false u = record { begun = u ∙ rw e; abandoned = rw e; ended = rw e; within = h }
 
+-- An adjustment begins, abandons and ends nothing.
+adjusted-turned : (f : Framer) (three x : Bool) → Adjusting f x → Turned f three x (adjusted f)
+adjusted-turned f three x a =
+    let data-bit : eqb (f .left) 0 ≡ false = ne-eqb (f .left) 0 (λ z. omega (arith, a .data-bit)) in
+    record {
+      begun = rw (a .framing);
+      abandoned = rw (a .framing, a .starting);
+      ended = rw (a .framing, a .starting, data-bit);
+      within = omega arith;
+    }
+
 pub turned : (n : ℕ) (f : Framer) (three x : Bool) → f .rt ≤ 16 → Turned f three x (framed n f three x)
-unfolding framed
+unfolding framed fixed
 turned n f three x h =
-    by-cond (Turned f three x) (f .framing) (λ e. in-bit n f three x h e (f .starting) (eqb (f .left) 0) refl refl)
-    (λ e. search n f three x h e (begins f three x) refl)
+    by-cond (Turned f three x) (adjusts n f three x) (λ a. adjusted-turned f three x (adjusting n f three x a))
+    (λ a. by-cond (Turned f three x) (f .framing) (λ e. in-bit n f three x h e (f .starting) (eqb (f .left) 0) refl refl)
+    (λ e. search n f three x h e (begins f three x) refl))

@@ -9,7 +9,7 @@ use lib.Dec.{leb}
 use lib.ListN.{replicate, length, length-replicate}
 use borrow.Author.Tests.{ne-eqb, leb-false}
 use Rattle.sci.specs.Control.{SCBR, M, RE, bitsOf, settings}
-use Rattle.sci.specs.Framer.{framed}
+use Rattle.sci.specs.Framer.{fixed, framed}
 use Rattle.sci.specs.Receiver.{three, received}
 use Rattle.sci.specs.Transmitter.{sent}
 use Rattle.sci.specs.Serial.{due, sampled, clocked}
@@ -51,7 +51,7 @@ waiting-access c s₀ st s a m h =
 
 -- A sample of one leaves it searching after three ones.
 rested-sample : (c : ℕ) (st : Stage) (p : Received) → Rested st p → Rested st (received (p .receiver) (p .status) c true)
-unfolding framerAfter framed
+unfolding framerAfter framed fixed
 rested-sample c st p r =
     let bits : List Bool = replicate (bitsOf (M c)) false in
     let sized : bitsOf (M c) ≡ length bits = sym (length-replicate (bitsOf (M c)) false) in

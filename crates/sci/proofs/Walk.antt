@@ -4,45 +4,45 @@
 use Prim.Native.Nat.{ℕ, suc, _+_, _-_, _%_}
 use mathlib.Core.Bool.{Bool, true, false, _&&_}
 use mathlib.Core.List.{List, [], _∷_}
-use mathlib.Core.Path.{_≡_, refl}
+use mathlib.Core.Path.{_≡_, refl, subst, _∙_}
 use lib.Dec.{eqb, eqb·suc-zero}
 use Rattle.steps.specs.Bits.{digit}
 use Rattle.sci.specs.Bits.{majority, disagreed, onesOf}
-use Rattle.sci.specs.Framer.{more, begun, ends, collected, startBit, dataBit, stopBit, framed}
-use Rattle.sci.specs.Levels.{framerAfter}
+use Rattle.sci.specs.Framer.{more, begun, ends, collected, startBit, dataBit, stopBit, fixed, adjusts, framed}
+use Rattle.sci.specs.Levels.{framerAfter, Unmoved}
 use Rattle.sci.specs.declared.framer.Framer.{Framer}
 
 -- Samples that lead a framer from f to g inside a frame, none of them the frame's last.
 pub data Walk (n : ℕ) : List Bool → Framer → Framer → Type 0 where
   here : {f : Framer} → Walk n [] f f
   on : {f g : Framer} {x : Bool} {xs : List Bool} (next : Framer) → f .framing ≡ true → ends f ≡ false →
-      ((three : Bool) → framed n f three x ≡ next) → Walk n xs next g → Walk n (x ∷ xs) f g
+      ((three : Bool) → fixed n f three x ≡ next) → Walk n xs next g → Walk n (x ∷ xs) f g
 
 -- Inside a bit: the start bit; a data bit or the stop bit, with m data bits left.
 abbrev inStart : ℕ → ℕ → Bool → Bool → ℕ → Framer
 inStart n rt a c noise =
-    record { framing = true; starting = true; left = n; rt = rt; first = a; second = c; noise = noise; shift = 0 }
+    record { framing = true; starting = true; left = n; rt = rt; first = a; second = c; noise = noise; moved = false; shift = 0 }
 
 abbrev pub bitAt : ℕ → ℕ → Bool → Bool → ℕ → ℕ → Framer
 bitAt m rt a c noise s =
-    record { framing = true; starting = false; left = m; rt = rt; first = a; second = c; noise = noise; shift = s }
+    record { framing = true; starting = false; left = m; rt = rt; first = a; second = c; noise = noise; moved = false; shift = s }
 
 start-step : {n : ℕ} {xs : List Bool} {g : Framer} {x : Bool} (rt : ℕ) (a c : Bool) (noise : ℕ) (next : Framer) →
     startBit (inStart n rt a c noise) (rt % 16 + 1) x ≡ next → Walk n xs next g → Walk n (x ∷ xs) (inStart n rt a c noise) g
-unfolding framed
+unfolding fixed
 start-step rt a c noise next e w = on next refl refl (λ three. e) w
 
 data-step : {n : ℕ} {xs : List Bool} {g : Framer} {x : Bool} (m rt : ℕ) (a c : Bool) (noise s : ℕ) (next : Framer) →
     dataBit n (bitAt (suc m) rt a c noise s) (rt % 16 + 1) x ≡ next → Walk n xs next g →
     Walk n (x ∷ xs) (bitAt (suc m) rt a c noise s) g
-unfolding framed
+unfolding fixed
 data-step {x = x} m rt a c noise s next e w =
     on {f = bitAt (suc m) rt a c noise s} {x = x} next refl (rw (eqb·suc-zero m)) (λ three. rw (eqb·suc-zero m) e) w
 
 stop-step : {n : ℕ} {xs : List Bool} {g : Framer} {x : Bool} (rt : ℕ) (a c : Bool) (noise s : ℕ) (next : Framer) →
     eqb rt 9 ≡ false → stopBit (bitAt 0 rt a c noise s) (rt % 16 + 1) x ≡ next → Walk n xs next g →
     Walk n (x ∷ xs) (bitAt 0 rt a c noise s) g
-unfolding framed
+unfolding fixed
 stop-step rt a c noise s next h e w = on next refl h (λ three. e) w
 
 -- The start bit from RT2 on, its vote at RT7 no majority of ones: the ones at RT3, RT5, RT7 and at RT8, RT9, RT10 are its noise.
@@ -114,8 +114,16 @@ walk-stop n a c noise s x1 x2 x3 x4 x5 x6 x7 x8 x9 =
     (stop-step 8 x8 c noise s (bitAt 0 9 x8 x9 noise s) refl refl
     here))))))))
 
--- A walk is what the framer does, whatever the three samples before.
-pub along : {n : ℕ} {xs : List Bool} {f g : Framer} (a b c : Bool) → Walk n xs f g → framerAfter n a b c f xs ≡ g
-unfolding framerAfter
-along a b c here = refl
-along {n} a b c (on {x = x} next h q e w) = rw (e (a && b && c)) (along x a b w)
+-- A sample that makes no adjustment.
+pub unmoved : (n : ℕ) (f : Framer) (three x : Bool) → adjusts n f three x ≡ false → framed n f three x ≡ fixed n f three x
+unfolding framed
+unmoved n f three x e = rw e
+
+-- Where none does, a walk is what the framer does.
+pub along : {n : ℕ} {xs : List Bool} {f g : Framer} (a b c : Bool) → Walk n xs f g → Unmoved n a b c f xs →
+    framerAfter n a b c f xs ≡ g
+unfolding framerAfter Unmoved
+along a b c here u = refl
+along {n} a b c (on {f = f} {g = g} {x = x} {xs = xs} next h q e w) u =
+    let s : framed n f (a && b && c) x ≡ next = unmoved n f (a && b && c) x (u .0) ∙ e (a && b && c) in
+    rw s (along x a b w (subst (λ (k : Framer). Unmoved n x a b k xs) s (u .1)))

@@ -4,7 +4,7 @@ use mathlib.Core.List.{List, [], _∷_}
 use mathlib.Core.Path.{_≡_, refl}
 use native.Mathlib.Omega.{arith}
 use Rattle.sci.specs.Status.{has, raise, raiseIf, fall, fallIf, markSeen, fallSeen}
-use Rattle.sci.specs.Framer.{startBit, dataBit, stopBit, framed}
+use Rattle.sci.specs.Framer.{startBit, dataBit, stopBit, fixed, framed}
 use Rattle.sci.specs.Receiver.{outcome, raised, entered, statusAfter, receiverAfter, received}
 use Rattle.sci.specs.Transmitter.{sent}
 use Rattle.sci.specs.Line.{delivers, resyncSamples}
@@ -35,7 +35,7 @@ unbroken (writesSccr1 v upper lower ∷ es) s e = absurd (false≢true e)
 unbroken (writesScdr v upper lower ∷ es) s e = (refl, unbroken es (step (writesScdr v upper lower) s) e)
 
 recovers : Recovers before quiet
-unfolding has raise raiseIf fall fallIf markSeen fallSeen startBit dataBit stopBit framed outcome raised entered statusAfter receiverAfter received sent sampled clocked wroteSccr0 wroteSccr1 sccr0Guarded sccr1Guarded step run ops
+unfolding has raise raiseIf fall fallIf markSeen fallSeen startBit dataBit stopBit framed fixed outcome raised entered statusAfter receiverAfter received sent sampled clocked wroteSccr0 wroteSccr1 sccr0Guarded sccr1Guarded step run ops
 recovers =
     record {
       on = refl;
@@ -47,7 +47,7 @@ recovers =
     }
 
 compared : Compared (rate ∷ []) enable (samples resyncSamples true)
-unfolding has raise raiseIf fall fallIf markSeen fallSeen startBit dataBit stopBit framed outcome raised entered statusAfter receiverAfter received sent sampled clocked wroteSccr0 wroteSccr1 sccr0Guarded sccr1Guarded step run ops
+unfolding has raise raiseIf fall fallIf markSeen fallSeen startBit dataBit stopBit framed fixed outcome raised entered statusAfter receiverAfter received sent sampled clocked wroteSccr0 wroteSccr1 sccr0Guarded sccr1Guarded step run ops
 compared =
     record {
       off = (refl, tt);
@@ -59,7 +59,7 @@ compared =
     }
 
 pub met : Met
-unfolding has raise raiseIf fall fallIf markSeen fallSeen startBit dataBit stopBit framed outcome raised entered statusAfter receiverAfter received sent sampled clocked wroteSccr0 wroteSccr1 sccr0Guarded sccr1Guarded step run ops watched delivers wordsOf log
+unfolding has raise raiseIf fall fallIf markSeen fallSeen startBit dataBit stopBit framed fixed outcome raised entered statusAfter receiverAfter received sent sampled clocked wroteSccr0 wroteSccr1 sccr0Guarded sccr1Guarded step run ops watched delivers wordsOf log
 met =
     record {
       recovers = recovers;

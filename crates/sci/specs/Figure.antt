@@ -13,7 +13,7 @@ use Rattle.sci.specs.Bits.{vote}
 use Rattle.sci.specs.Framer.{searching, ends, frameOf}
 use Rattle.sci.specs.Receiver.{outcome, received}
 use Rattle.sci.specs.Transmitter.{sent}
-use Rattle.sci.specs.Levels.{endSample, framerAfter}
+use Rattle.sci.specs.Levels.{endSample, framerAfter, Unmoved}
 use Rattle.sci.specs.Serial.{resetSci}
 use Rattle.sci.specs.History.{Step, reset, clock, reads, writesSccr0, writesSccr1, writesScdr, step, sampling}
 use Rattle.sci.specs.declared.framer.Framer.{Framer}
@@ -38,11 +38,13 @@ disagreements (suc n) xs = vote (rt 8 xs) (rt 9 xs) (rt 10 xs) .disagreed + disa
 abbrev pub figure : ℕ → List Bool → ℕ
 figure n xs = startOnes xs + disagreements n (drop 16 xs)
 
--- The samples of a frame of n data bits but its last, from its start bit's RT1 to the stop bit's RT9: the start bit stands.
+-- The samples of a frame of n data bits but its last, from its start bit's RT1 to the stop bit's RT9: the start bit stands,
+-- and no sampling point moves.
 pub record Stands (n : ℕ) (xs : List Bool) : Type 0 where
   pub whole : length xs ≡ endSample n
   pub begins : rt 1 xs ≡ false
   pub stands : vote (rt 3 xs) (rt 5 xs) (rt 7 xs) .bit ≡ false
+  pub unmoved : Unmoved n true true true searching xs
 
 -- The frame's sum is that of its samples, for any number of bits whose figure can be held.
 abbrev pub FrameFigure : Type 0
@@ -79,6 +81,7 @@ withSum r sum =
             first = r .framer .first;
             second = r .framer .second;
             noise = sum;
+            moved = r .framer .moved;
             shift = r .framer .shift;
           };
       last1 = r .last1;

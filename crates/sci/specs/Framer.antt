@@ -1,8 +1,8 @@
 -- Document 01, Receiver: where the receiver stands in a frame, and what one sample makes of it, for frames of any number n of data bits.
 use mathlib.Core.Bool.{Bool, true, false, cond, not, _&&_, _||_}
 use Prim.Native.Nat.{ℕ, _+_, _-_, _/_, _%_, _^_, min}
-use lib.Dec.{eqb, leb}
-use Rattle.steps.specs.Bits.{digit}
+use lib.Dec.{eqb, leb, ltb}
+use Rattle.steps.specs.Bits.{bit, digit}
 use Rattle.sci.specs.Bits.{vote, onesOf}
 use Rattle.sci.specs.declared.bits.Voted.{Voted}
 use Rattle.sci.specs.declared.framer.Framer.{Framer}
@@ -15,12 +15,12 @@ more noise by = min 255 (noise + by)
 
 abbrev pub searching : Framer
 searching =
-    record { framing = false; starting = false; left = 0; rt = 0; first = false; second = false; noise = 0; shift = 0 }
+    record { framing = false; starting = false; left = 0; rt = 0; first = false; second = false; noise = 0; moved = false; shift = 0 }
 
 -- RT1 of a start bit.
 abbrev pub begun : ℕ → Framer
 begun n =
-    record { framing = true; starting = true; left = n; rt = 1; first = false; second = false; noise = 0; shift = 0 }
+    record { framing = true; starting = true; left = n; rt = 1; first = false; second = false; noise = 0; moved = false; shift = 0 }
 
 -- A zero is RT1 if the three samples before it are ones.
 abbrev pub begins : Framer → Bool → Bool → Bool
@@ -54,6 +54,7 @@ atRt f rt =
       first = f .first;
       second = f .second;
       noise = f .noise;
+      moved = f .moved;
       shift = f .shift;
     }
 
@@ -68,6 +69,7 @@ firstAt f rt x =
       first = x;
       second = f .second;
       noise = f .noise;
+      moved = f .moved;
       shift = f .shift;
     }
 
@@ -81,6 +83,7 @@ secondAt f rt x =
       first = f .first;
       second = x;
       noise = f .noise;
+      moved = f .moved;
       shift = f .shift;
     }
 
@@ -94,6 +97,7 @@ noiseAt f rt by =
       first = f .first;
       second = f .second;
       noise = more (f .noise) by;
+      moved = f .moved;
       shift = f .shift;
     }
 
@@ -113,6 +117,7 @@ started f rt =
       first = f .first;
       second = f .second;
       noise = f .noise;
+      moved = f .moved;
       shift = f .shift;
     }
 
@@ -142,10 +147,11 @@ decided n f rt x =
       first = f .first;
       second = f .second;
       noise = more (f .noise) (vote (f .first) (f .second) x .disagreed);
+      moved = f .moved;
       shift = collected (vote (f .first) (f .second) x .bit) n (f .shift);
     }
 
--- RT16 of a data bit.
+-- RT16 of a data bit: no adjustment has set RT1 of the next.
 abbrev pub passed : Framer → ℕ → Framer
 passed f rt =
     record {
@@ -156,6 +162,7 @@ passed f rt =
       first = f .first;
       second = f .second;
       noise = f .noise;
+      moved = false;
       shift = f .shift;
     }
 
@@ -179,6 +186,54 @@ inBit false false n f rt x = dataBit n f rt x
 abbrev pub nextRt : Framer → ℕ
 nextRt f = f .rt % 16 + 1
 
-unfoldable pub framed : ℕ → Framer → Bool → Bool → Framer
-framed n f three x =
+-- One sample that makes no adjustment.
+unfoldable pub fixed : ℕ → Framer → Bool → Bool → Framer
+fixed n f three x =
     cond (f .framing) (inBit (f .starting) (eqb (f .left) 0) n f (nextRt f) x) (searched (begins f three x) f n)
+
+-- Document 02, L3: sampling points do move.
+
+-- The last bit decided stands at the top of the n collected. Before the first there is a zero: so the start bit counts.
+abbrev pub lastBit : ℕ → ℕ → Bool
+lastBit n w = bit (n - 1) w
+
+-- The frame's last decided bit was one.
+abbrev pub afterOne : ℕ → Framer → Bool
+afterOne n f = lastBit n (f .shift)
+
+-- RT11 to RT16; RT2 to RT7.
+abbrev pub nearNext : Framer → Bool
+nearNext f = leb 11 (nextRt f)
+
+abbrev pub nearThis : Framer → Bool
+nearThis f = leb 2 (nextRt f) && leb (nextRt f) 7
+
+-- The first becomes RT1 of the next bit, if that is a data bit.
+abbrev pub earlyFall : Framer → Bool
+earlyFall f = nearNext f && ltb 1 (f .left)
+
+-- The second becomes RT1 of the bit it is in, if that is a data bit and its RT1 was not set so already.
+abbrev pub lateFall : Framer → Bool
+lateFall f = nearThis f && ltb 0 (f .left) && not (f .moved)
+
+-- While data bits are read, and the last decided bit was one, a zero after three ones makes an adjustment.
+abbrev pub adjusts : ℕ → Framer → Bool → Bool → Bool
+adjusts n f three x =
+    not x && three && f .framing && not (f .starting) && afterOne n f && (earlyFall f || lateFall f)
+
+abbrev pub adjusted : Framer → Framer
+adjusted f =
+    record {
+      framing = f .framing;
+      starting = f .starting;
+      left = cond (earlyFall f) (f .left - 1) (f .left);
+      rt = 1;
+      first = f .first;
+      second = f .second;
+      noise = f .noise;
+      moved = true;
+      shift = f .shift;
+    }
+
+unfoldable pub framed : ℕ → Framer → Bool → Bool → Framer
+framed n f three x = cond (adjusts n f three x) (adjusted f) (fixed n f three x)

@@ -31,10 +31,10 @@ heard r sccr1 x = received r clear sccr1 x
 
 -- RT6 of a start bit with ones at RT3 and RT5; RT9 of the stop bit of a frame with the word 80 (hexadecimal).
 abbrev starting : Framer
-starting = record { framing = true; starting = true; left = 8; rt = 6; first = true; second = true; noise = 0; shift = 0 }
+starting = record { framing = true; starting = true; left = 8; rt = 6; first = true; second = true; noise = 0; moved = false; shift = 0 }
 
 abbrev stopping : Framer
-stopping = record { framing = true; starting = false; left = 0; rt = 9; first = true; second = true; noise = 0; shift = 128 }
+stopping = record { framing = true; starting = false; left = 0; rt = 9; first = true; second = true; noise = 0; moved = false; shift = 128 }
 
 abbrev begins : Bool
 begins =

@@ -1,11 +1,12 @@
 -- A frame on the line: bits low bit first, 16 samples each, and what a framer makes of samples.
 use mathlib.Core.Bool.{Bool, true, false, _&&_}
 use mathlib.Core.List.{List, [], _∷_, _++_}
+use mathlib.Core.Path.{_≡_}
 use Prim.Native.Nat.{ℕ, zero, suc, _+_, _*_, _/_, _%_}
 use lib.Dec.{eqb}
 use lib.ListN.{replicate, take}
 use Rattle.steps.specs.Bits.{digit}
-use Rattle.sci.specs.Framer.{searching, framed}
+use Rattle.sci.specs.Framer.{searching, adjusts, framed}
 use Rattle.sci.specs.declared.framer.Framer.{Framer}
 
 -- The low n bits of a word, low bit first.
@@ -31,6 +32,11 @@ frameLevels bits = stretched (false ∷ bits ++ (true ∷ []))
 unfoldable pub framerAfter : ℕ → Bool → Bool → Bool → Framer → List Bool → Framer
 framerAfter n a b c f [] = f
 framerAfter n a b c f (x ∷ xs) = framerAfter n x a b (framed n f (a && b && c) x) xs
+
+-- None of the samples makes an adjustment.
+unfoldable pub Unmoved : ℕ → Bool → Bool → Bool → Framer → List Bool → Type 0
+Unmoved n a b c f [] = Unit {0}
+Unmoved n a b c f (x ∷ xs) = (adjusts n f (a && b && c) x ≡ false) × Unmoved n x a b (framed n f (a && b && c) x) xs
 
 -- A framer that searches after three ones, after k samples of a frame.
 abbrev pub framerAt : ℕ → List Bool → ℕ → Framer

@@ -29,3 +29,4 @@ pub mod SerialClauses
 pub mod Instances
 pub mod Clauses
 pub mod Figure
+pub mod Moves

@@ -17,9 +17,9 @@ use Rattle.sci.specs.declared.transmitter.Transmitter.{Transmitter}
 abbrev pub busy : ℕ → Bool
 busy rt = bit (rt % 16) 33748
 
--- In a frame no bit is sampled, voted on or ended; out of it no start bit begins.
+-- No zero after three ones; and in a frame no bit is sampled, voted on or ended.
 unfoldable pub rests : Framer → Bool → Bool → Bool
-rests f three x = cond (f .framing) (not (busy (f .rt))) (not three || x)
+rests f three x = (not three || x) && not (f .framing && busy (f .rt))
 
 unfoldable pub rested : Framer → Framer
 rested f = cond (f .framing) (atRt f (nextRt f)) f

@@ -2,12 +2,11 @@
 use mathlib.Core.Bool.{Bool, true, false, cond, not, _&&_, _||_}
 use Prim.Native.Nat.{ℕ, _+_, _-_, min}
 use lib.Dec.{eqb, ltb}
-use Rattle.steps.specs.Bits.{bit}
 use Rattle.sci.specs.Flags.{PF, FE, NF, OR, IDLE, RAF, RDRF}
 use Rattle.sci.specs.Status.{has, raise, raiseIf, fallIf}
 use Rattle.sci.specs.Control.{ILT, PT, PE, M, WAKE, bitsOf, frameSamples}
 use Rattle.sci.specs.Bits.{parityBit}
-use Rattle.sci.specs.Framer.{searching, begins, abandons, ends, frameOf, framed}
+use Rattle.sci.specs.Framer.{searching, begins, abandons, ends, frameOf, lastBit, framed}
 use Rattle.sci.specs.declared.status.Status.{Status}
 use Rattle.sci.specs.declared.framer.Frame.{Frame}
 use Rattle.sci.specs.declared.receiver.Receiver.{Receiver}
@@ -34,7 +33,7 @@ three r = r .last1 && r .last2 && r .last3
 
 -- The last of n bits before the stop bit is a one.
 abbrev pub addressed : ℕ → ℕ → Bool
-addressed n w = bit (n - 1) w
+addressed n w = lastBit n w
 
 -- An ended frame, not asleep, is taken; with WAKE=1 one whose last bit is 1 wakes the receiver and is taken.
 abbrev pub takes : Receiver → ℕ → ℕ → Bool

@@ -9,6 +9,7 @@ ghost use Rattle.sci.specs.Demand3.{Demand3};
 ghost use Rattle.sci.specs.Witness.{Met};
 ghost use Rattle.sci.specs.Clauses.{Clauses};
 ghost use Rattle.sci.specs.Figure.{Figures};
+ghost use Rattle.sci.specs.Moves.{Moves};
 
 // The laws of membership of the flag set.
 fn membership() -> bool
@@ -45,6 +46,14 @@ fn clauses() -> bool
 // Ruled out: the stop bit left out; the start bit's ones at RT8 to RT10 left out; a lost frame's figure kept.
 fn noise_figure() -> bool
     ensures { λ r. ⌜ (r ≡ true) × Figures ⌝ }
+{
+    true
+}
+
+// Sampling points that move: where, and where not; the last decided bit; a line at exact rate, for any number of bits.
+// Ruled out: a move in the stop bit; two moves for one bit; a move after a zero bit; RT8 to RT10 moving.
+fn moving_points() -> bool
+    ensures { λ r. ⌜ (r ≡ true) × Moves ⌝ }
 {
     true
 }

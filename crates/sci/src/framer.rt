@@ -1,8 +1,10 @@
 // Where the receiver stands in a frame, and what one sample makes of it.
 ghost use mathlib.Core.Path.{_≡_};
+ghost use mathlib.Core.Bool.{cond};
+ghost use Prim.Native.Nat.{_-_};
 ghost use Rattle.sci.specs.Control.{bitsOf};
 ghost use Rattle.sci.specs.Plain.{busy, rests, rested};
-ghost use Rattle.sci.specs.Framer.{more, searching, begun, begins, abandons, ends, frameOf, searched, noiseAt, judged, heard, startBit, collected, dataBit, stopBit, inBit, framed};
+ghost use Rattle.sci.specs.Framer.{more, searching, begun, begins, abandons, ends, frameOf, searched, noiseAt, judged, heard, startBit, collected, dataBit, stopBit, inBit, fixed, lastBit, earlyFall, lateFall, adjusts, adjusted, framed};
 use crate::bits::digit;
 use crate::bits::vote;
 use crate::control::bits_of;
@@ -20,6 +22,8 @@ pub struct Framer {
     pub second: bool,
     // The noise figure so far.
     pub noise: u8,
+    // An adjustment has set RT1 of this bit.
+    pub moved: bool,
     pub shift: u16,
 }
 
@@ -43,6 +47,7 @@ impl Framer {
             first: false,
             second: false,
             noise: 0,
+            moved: false,
             shift: 0,
         }
     }
@@ -59,6 +64,7 @@ impl Framer {
             first: false,
             second: false,
             noise: 0,
+            moved: false,
             shift: 0,
         }
     }
@@ -101,16 +107,13 @@ impl Framer {
         }
     }
 
-    // Whether a sample changes nothing but RT: no start bit begins, and its RT is none at which a bit is sampled, voted on or ended.
+    // Whether a sample changes nothing but RT: it is no zero after three ones, and in a frame its RT is none at which a bit is sampled, voted
+    // on or ended.
     // Ruled out: RT3 of a start bit passed over; a start bit passed over.
     pub fn rests(self, three: bool, x: bool) -> bool
         ensures { λ r. ⌜ r ≡ rests self three x ⌝ }
     {
-        if self.framing {
-            !busy(self.rt)
-        } else {
-            !three | x
-        }
+        (!three | x) & !(self.framing & busy(self.rt))
     }
 
     // Such a sample.
@@ -216,6 +219,7 @@ impl Framer {
             16 => {
                 self.rt = rt;
                 self.left = steps::one_less(self.left);
+                self.moved = false;
                 self
             }
             _ => {
@@ -262,15 +266,64 @@ impl Framer {
         }
     }
 
-    // One sample. RT16 is followed by RT1 of the next bit.
-    // Ruled out: sampling points that move inside a frame; a search that goes on only at RT16.
-    pub fn framed(self, three: bool, x: bool, m: bool) -> Framer
-        ensures { λ r. ⌜ r ≡ framed (bitsOf m) self three x ⌝ }
+    // One sample that makes no adjustment. RT16 is followed by RT1 of the next bit.
+    fn fixed(self, three: bool, x: bool, m: bool) -> Framer
+        ensures { λ r. ⌜ r ≡ fixed (bitsOf m) self three x ⌝ }
     {
         if self.framing {
             self.in_bit(self.starting, self.left == 0, self.rt % 16 + 1, x, m)
         } else {
             self.searched(self.begins(three, x), bits_of(m))
+        }
+    }
+
+    // Whether a sample is RT11 to RT16 of a data bit, with another data bit after it.
+    fn early_fall(self) -> bool
+        ensures { λ r. ⌜ r ≡ earlyFall self ⌝ }
+    {
+        (11 <= self.rt % 16 + 1) & (1 < self.left)
+    }
+
+    // Whether a sample is RT2 to RT7 of a data bit whose RT1 no adjustment has set.
+    fn late_fall(self) -> bool
+        ensures { λ r. ⌜ r ≡ lateFall self ⌝ }
+    {
+        let rt = self.rt % 16 + 1;
+        (2 <= rt) & (rt <= 7) & (0 < self.left) & !self.moved
+    }
+
+    // Whether a sample makes an adjustment.
+    // Ruled out: one after a zero bit; a second one for a bit.
+    pub fn adjusts(self, three: bool, x: bool, m: bool) -> bool
+        ensures { λ r. ⌜ r ≡ adjusts (bitsOf m) self three x ⌝ }
+    {
+        !x
+            & three
+            & self.framing
+            & !self.starting
+            & last_bit(m, self.shift)
+            & (self.early_fall() | self.late_fall())
+    }
+
+    // It becomes RT1 of the next bit, or of the bit that it is in.
+    fn adjusted(mut self) -> Framer
+        ensures { λ r. ⌜ r ≡ adjusted self ⌝ }
+    {
+        self.left = left_after(self.early_fall(), self.left);
+        self.rt = 1;
+        self.moved = true;
+        self
+    }
+
+    // One sample.
+    // Ruled out: sampling points that never move; a move in the stop bit.
+    pub fn framed(self, three: bool, x: bool, m: bool) -> Framer
+        ensures { λ r. ⌜ r ≡ framed (bitsOf m) self three x ⌝ }
+    {
+        if self.adjusts(three, x, m) {
+            self.adjusted()
+        } else {
+            self.fixed(three, x, m)
         }
     }
 }
@@ -288,6 +341,24 @@ fn busy(rt: u8) -> bool
 {
     let at: u16 = 33748;
     (at >> (rt % 16)) % 2 == 1
+}
+
+fn left_after(early: bool, left: u8) -> u8
+    ensures { λ r. ⌜ r ≡ cond early (left - 1) left ⌝ }
+{
+    if early { steps::one_less(left) } else { left }
+}
+
+// The last bit that came in, of the bits collected.
+// Ruled out: the lowest bit; bit 8 of a frame of 8 bits.
+pub fn last_bit(m: bool, w: u16) -> bool
+    ensures { λ r. ⌜ r ≡ lastBit (bitsOf m) w ⌝ }
+{
+    if m {
+        w / 256 % 2 == 1
+    } else {
+        w / 128 % 2 == 1
+    }
 }
 
 // The bits collected, low bit first, with one more.

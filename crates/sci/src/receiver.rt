@@ -4,10 +4,11 @@ ghost use mathlib.Core.Bool.{cond};
 ghost use Prim.Native.Nat.{_+_, min};
 ghost use Rattle.sci.specs.Control.{bitsOf};
 ghost use Rattle.sci.specs.Plain.{plain, passed};
-ghost use Rattle.sci.specs.Receiver.{startState, three, addressed, full, raised, entered, statusAfter, idleCount, takes, reaches, outcome, receiverAfter, received};
+ghost use Rattle.sci.specs.Receiver.{startState, three, full, raised, entered, statusAfter, idleCount, takes, reaches, outcome, receiverAfter, received};
 use crate::bits::parity_bit;
 use crate::control;
 use crate::flags::Flags;
+use crate::framer;
 use crate::framer::Frame;
 use crate::framer::Framer;
 use crate::status::Status;
@@ -44,17 +45,6 @@ pub struct Outcome {
 pub struct Received {
     pub receiver: Receiver,
     pub status: Status,
-}
-
-// Whether the last bit before the stop bit is a one.
-fn addressed(m: bool, w: u16) -> bool
-    ensures { λ r. ⌜ r ≡ addressed (bitsOf m) w ⌝ }
-{
-    if m {
-        w / 256 % 2 == 1
-    } else {
-        w / 128 % 2 == 1
-    }
 }
 
 // Whether SCDR can't take a frame.
@@ -137,7 +127,7 @@ impl Receiver {
     fn takes(self, sccr1: u16, word: u16) -> bool
         ensures { λ r. ⌜ r ≡ takes self sccr1 word ⌝ }
     {
-        !self.asleep | (control::wake(sccr1) & addressed(control::m(sccr1), word))
+        !self.asleep | (control::wake(sccr1) & framer::last_bit(control::m(sccr1), word))
     }
 
     fn reaches(self, m: bool) -> bool

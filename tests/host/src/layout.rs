@@ -14,7 +14,7 @@ macro_rules! layout {
 layout!(Answer, 4, 12; refusal 0, value 4, levels 8, mask 9, level 10, vector 11);
 layout!(Flags, 2, 2; bits 0);
 layout!(Status, 2, 4; flags 0, seen 2);
-layout!(Framer, 2, 10; framing 0, starting 1, left 2, rt 3, first 4, second 5, noise 6, shift 8);
+layout!(Framer, 2, 10; framing 0, starting 1, left 2, rt 3, first 4, second 5, noise 6, moved 7, shift 8);
 layout!(Receiver, 2, 20;
     framer 0, scdr 10, noise 12, since 13, last1 14, last2 15, last3 16, idle 17, asleep 18,
 );

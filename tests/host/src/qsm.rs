@@ -35,6 +35,7 @@ c_struct!(Framer {
     first: bool,
     second: bool,
     noise: u8,
+    moved: bool,
     shift: u16,
 });
 

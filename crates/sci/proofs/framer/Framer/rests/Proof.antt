@@ -5,11 +5,7 @@ use Rattle.sci.proofs.framer.Framer.rests.Tie as tie
 
 returns : tie.Need-returns
 unfolding rests
-returns c = rw (c .busy .ensures, c .before .if1 .taken)
-
-returns-2 : tie.Need-returns-2
-unfolding rests
-returns-2 c = rw (c .if1 .left)
+returns c = rw (c .before .busy .ensures)
 
 pub rests-spec : {M : Type 1} → statement M
-rests-spec = tie.close (tie.spec (λ c κs. search needs) returns returns-2)
+rests-spec = tie.close (tie.spec (λ c κs. search needs) returns)
