@@ -104,5 +104,5 @@ static void run(unsigned microseconds)
 int main(void)
 {
     run(500);
-    run(1065);
+    run(1064);
 }
