@@ -3,6 +3,7 @@
 //! usage: tools COMMAND [ARGUMENT..]
 
 mod compare;
+mod figures;
 mod play;
 
 use std::io::{self, Read, Write};
@@ -34,7 +35,8 @@ fn run(words: &[&str]) -> Printed {
         ["compare", first, second, room] => {
             compare::compare(&file(first)?, &file(second)?, number(room)?)
         }
-        _ => Err("usage: tools play [ROOM] | compare FILE_A FILE_B ROOM".into()),
+        ["figures"] => figures::figures(),
+        _ => Err("usage: tools play [ROOM] | compare FILE_A FILE_B ROOM | figures".into()),
     }
 }
 

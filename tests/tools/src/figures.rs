@@ -1,0 +1,24 @@
+//! `figures`: a trace from standard input, played record by record; after each answer, what the module counts.
+
+use crate::Printed;
+use host::qsm::Module;
+
+/// The bytes of an answer.
+const ANSWER: usize = 10;
+
+/// A line for each record answered: the noise figure of the word in SCDR, then frames taken and frames lost, which are not counted yet.
+pub fn figures() -> Printed {
+    let trace = crate::standard_input()?;
+    let mut module = Module::new();
+    let mut lines = String::new();
+    let mut at = 0;
+    loop {
+        let played = module.play(&trace[at..], &mut [0; ANSWER]);
+        if played.written == 0 {
+            return Ok(lines.into_bytes());
+        }
+        at += played.read;
+        module = played.state;
+        lines += &format!("{} - -\n", module.noise());
+    }
+}
