@@ -1,5 +1,5 @@
--- The vote by and, or and not; and a start bit's vote at RT7.
-use mathlib.Core.Bool.{Bool, true, false, not, _&&_, _||_}
+-- The vote, worked out from whether two samples differ; and a start bit's vote at RT7.
+use mathlib.Core.Bool.{Bool, true, false, not, _&&_, _||_, Bool·beq}
 use mathlib.Core.Path.{_≡_, refl}
 use Prim.Native.Nat.{_≤_}
 use native.Mathlib.Omega.{arith}
@@ -9,9 +9,13 @@ use Rattle.sci.specs.Framer.{judged}
 use Rattle.sci.specs.declared.bits.Voted.{Voted}
 use Rattle.sci.specs.declared.framer.Framer.{Framer}
 
--- Three samples disagree if there is a one and not all are ones.
+-- Where the first two differ, the third decides; the samples disagree if any two do.
+abbrev differ : Bool → Bool → Bool
+differ a b = not (Bool·beq a b)
+
 pub voted : (a b c : Bool) →
-    _≡_ {A = Voted} (record { bit = majority a b c; disagreed = digit ((a || b || c) && not (a && b && c)) }) (vote a b c)
+    _≡_ {A = Voted} (record { bit = (differ a b && c) || (not (differ a b) && a); disagreed = digit (differ a b || differ b c) })
+    (vote a b c)
 voted true true true = refl
 voted true true false = refl
 voted true false true = refl

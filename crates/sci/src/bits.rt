@@ -14,9 +14,11 @@ pub struct Voted {
 pub fn vote(a: bool, b: bool, c: bool) -> Voted
     ensures { λ r. ⌜ r ≡ vote a b c ⌝ }
 {
+    // Where the first two differ, the third decides.
+    let split = a != b;
     Voted {
-        bit: (a & b) | (a & c) | (b & c),
-        disagreed: digit((a | b | c) & !(a & b & c)),
+        bit: (split & c) | (!split & a),
+        disagreed: digit(split | (b != c)),
     }
 }
 
