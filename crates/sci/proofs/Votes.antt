@@ -1,21 +1,18 @@
--- The vote, worked out from whether two samples differ; and a start bit's vote at RT7.
-use mathlib.Core.Bool.{Bool, true, false, not, _&&_, _||_, Bool·beq}
+-- The vote, worked out from the number of ones; and a start bit's vote at RT7.
+use mathlib.Core.Bool.{Bool, true, false}
 use mathlib.Core.Path.{_≡_, refl}
-use Prim.Native.Nat.{_≤_}
+use Prim.Native.Nat.{_+_, _/_, _%_, _≤_}
 use native.Mathlib.Omega.{arith}
+use lib.Dec.{leb}
 use Rattle.steps.specs.Bits.{digit}
 use Rattle.sci.specs.Bits.{vote, majority, disagreed, onesOf}
 use Rattle.sci.specs.Framer.{judged}
 use Rattle.sci.specs.declared.bits.Voted.{Voted}
 use Rattle.sci.specs.declared.framer.Framer.{Framer}
 
--- Where the first two differ, the third decides; the samples disagree if any two do.
-abbrev differ : Bool → Bool → Bool
-differ a b = not (Bool·beq a b)
-
+-- Two ones or three are the majority; with one or two a sample disagrees.
 pub voted : (a b c : Bool) →
-    _≡_ {A = Voted} (record { bit = (differ a b && c) || (not (differ a b) && a); disagreed = digit (differ a b || differ b c) })
-    (vote a b c)
+    _≡_ {A = Voted} (record { bit = leb 2 (onesOf a b c); disagreed = (onesOf a b c + 1) / 2 % 2 }) (vote a b c)
 voted true true true = refl
 voted true true false = refl
 voted true false true = refl

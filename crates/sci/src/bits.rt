@@ -14,11 +14,11 @@ pub struct Voted {
 pub fn vote(a: bool, b: bool, c: bool) -> Voted
     ensures { λ r. ⌜ r ≡ vote a b c ⌝ }
 {
-    // Where the first two differ, the third decides.
-    let split = a != b;
+    // Two ones or three are the majority; with one or two a sample disagrees.
+    let ones = digit(a) + digit(b) + digit(c);
     Voted {
-        bit: (split & c) | (!split & a),
-        disagreed: digit(split | (b != c)),
+        bit: 2 <= ones,
+        disagreed: (ones + 1) / 2 % 2,
     }
 }
 
