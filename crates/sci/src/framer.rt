@@ -267,7 +267,8 @@ impl Framer {
     }
 
     // One sample that makes no adjustment. RT16 is followed by RT1 of the next bit.
-    fn fixed(self, three: bool, x: bool, m: bool) -> Framer
+    // Ruled out: a bit of fifteen samples; a search that goes on only at RT16.
+    pub fn fixed(self, three: bool, x: bool, m: bool) -> Framer
         ensures { λ r. ⌜ r ≡ fixed (bitsOf m) self three x ⌝ }
     {
         if self.framing {
