@@ -18,3 +18,4 @@ pub mod Pending
 pub mod Rising
 pub mod Rises
 pub mod Miso
+pub mod FieldClauses

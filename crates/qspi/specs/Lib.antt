@@ -10,6 +10,7 @@ pub mod Outputs
 pub mod Run
 pub mod Laws
 pub mod Clauses
+pub mod FieldClauses
 pub mod FlagLaws
 pub mod Marked
 pub mod Shown

@@ -1,6 +1,7 @@
 -- All that is shown of an entry and of a queue.
 use Rattle.qspi.specs.Laws.{HoldRuns, EdgeFormula, EdgesFall, LastEdge, SckTurns, SckRests, PcsShow, PcsDelay, MosiShows, MosiHolds, WordStored, UnusedZero, BitsInOrder, DelayRuns, NextStarts, HaltComes, HaltHolds, HaltReleases, QueueEnds, EntriesRun, QueueWraps, LastOfQueue, NotSooner, FaultAbandons, WriteAbandons}
 use Rattle.qspi.specs.Clauses.{Clauses}
+use Rattle.qspi.specs.FieldClauses.{FieldClauses}
 use Rattle.qspi.specs.FlagLaws.{FlagLaws}
 use Rattle.qspi.specs.Marked.{K7, K8, K9, K10}
 
@@ -31,6 +32,7 @@ pub record Shown : Type 0 where
   pub fault-abandons : FaultAbandons
   pub write-abandons : WriteAbandons
   pub clauses : Clauses
+  pub fields : FieldClauses
   pub flags : FlagLaws
   pub k7 : K7
   pub k8 : K8

@@ -15,6 +15,7 @@ use Rattle.qspi.proofs.Pending.{pending-wins}
 use Rattle.qspi.proofs.Rising.{spe-rises, no-rise, silent-before}
 use Rattle.qspi.proofs.Rises.{modf-only, halta-only, halta-once}
 use Rattle.qspi.proofs.Miso.{miso-read, miso-zeros}
+use Rattle.qspi.proofs.FieldClauses.{field-clauses}
 use Rattle.qspi.proofs.FlagLaws.{flag-shows, flag-falls, falls-only, read-sees, seen-only, seen-lasts, reset-forgets}
 use Rattle.qspi.proofs.Marked.{k7, k8, k9, k10}
 
@@ -78,6 +79,7 @@ returns c = (
     fault-abandons = fault-abandons;
     write-abandons = write-abandons;
     clauses = clauses;
+    fields = field-clauses;
     flags = flags;
     k7 = k7;
     k8 = k8;
