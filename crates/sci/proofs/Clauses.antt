@@ -12,10 +12,11 @@ use Rattle.sci.specs.Clauses.{Clauses}
 use Rattle.sci.proofs.ReceiverClauses.{receiver-clauses}
 use Rattle.sci.proofs.Lasting.{transmitter-clauses}
 use Rattle.sci.proofs.SerialClauses.{serial-clauses}
+use Rattle.sci.proofs.DataClauses.{data-clauses}
 
 met : instances ≡ replicate (length instances) true
 unfolding has raise raiseIf fall fallIf startBit stopBit framed fixed outcome raised entered statusAfter receiverAfter received sent wroteSccr0 wroteSccr1
 met = refl
 
 pub clauses : Clauses
-clauses = record { receiver = receiver-clauses; transmitter = transmitter-clauses; serial = serial-clauses; met = met }
+clauses = record { receiver = receiver-clauses; transmitter = transmitter-clauses; serial = serial-clauses; data-register = data-clauses; met = met }

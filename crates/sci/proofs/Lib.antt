@@ -50,6 +50,7 @@ pub mod ParitySent
 pub mod Starting
 pub mod Lasting
 pub mod SerialClauses
+pub mod DataClauses
 pub mod Clauses
 pub mod Figure
 pub mod Figures

@@ -1,17 +1,19 @@
 -- One flag k after a sample: what raises it, and what makes it fall.
 -- Assumes nothing.
-use mathlib.Core.Path.{_≡_, refl, sym, _∙_}
+use mathlib.Core.Path.{_≡_, refl, ap, sym, _∙_}
 use mathlib.Core.Bool.{Bool, true, false, not, _&&_, _||_, and-true, and-false, or-false}
 use Prim.Native.Nat.{ℕ}
+use lib.Dec.{ltb}
 use Rattle.sci.specs.Flags.{PF, FE, NF, OR, IDLE, RAF, RDRF, receiveFlags}
 use Rattle.sci.specs.Members.{member}
-use Rattle.sci.specs.Status.{raiseIf}
+use Rattle.sci.specs.Status.{raise, raiseIf}
 use Rattle.sci.specs.Receiver.{raised, entered, statusAfter}
 use Rattle.sci.specs.declared.status.Status.{Status}
 use Rattle.sci.specs.declared.framer.Frame.{Frame}
 use Rattle.sci.specs.declared.receiver.Outcome.{Outcome}
 use Rattle.sci.proofs.Flagged.{isSet, set-raise, set-raiseIf, set-fallIf, raise-keeps, fall-keeps}
 use Rattle.sci.proofs.Same.{outside-at}
+use Rattle.sci.proofs.Samples.{status-set}
 
 or-in : (a b c : Bool) → a || b || c ≡ a || (b || c)
 or-in true b c = refl
@@ -43,6 +45,16 @@ none-after k m s o f bad t l =
     let outside : member k RAF ≡ false = outside-at RAF refl k m in
     rw (t, l, fall-keeps k, raise-keeps k)
 
+-- FE with a frame that enters.
+fe-entered : (b : Bool) (s : Status) (f : Frame) (bad : Bool) → isSet 1 (entered b s f bad) ≡ isSet 1 s || (b && not (f .stop))
+unfolding entered raised member
+fe-entered true s f bad =
+    raise-keeps 1 bad _ PF refl ∙ set-raiseIf 1 (not (f .stop)) _ FE
+    ∙ ap (λ (b : Bool). b || (not (f .stop) && true))
+    (raise-keeps 1 (ltb 0 (f .noise)) (raise s RDRF) NF refl ∙ set-raise 1 s RDRF ∙ or-false (isSet 1 s))
+    ∙ ap (λ (b : Bool). isSet 1 s || b) (and-true (not (f .stop)))
+fe-entered false s f bad = sym (or-false (isSet 1 s))
+
 -- Each flag by itself.
 module _ (s : Status) (o : Outcome) (f : Frame) (bad idles : Bool) where
   pub raf-after : isSet 5 (statusAfter s o f bad idles) ≡ (isSet 5 s || o .begun) && not (o .abandoned || o .reached)
@@ -60,6 +72,12 @@ module _ (s : Status) (o : Outcome) (f : Frame) (bad idles : Bool) where
   pub or-after : isSet 3 (statusAfter s o f bad idles) ≡ isSet 3 s || o .lost
   unfolding member
   or-after = set-after 3 refl refl s o f bad idles ∙ simp (and-false, and-true, or-false)
+
+  pub fe-after : isSet 1 (statusAfter s o f bad idles) ≡ isSet 1 s || (o .taken && not (o .lost) && not (f .stop))
+  unfolding member
+  fe-after =
+      status-set 1 s o f bad idles refl (and-false idles) ∙ fe-entered (o .taken && not (o .lost)) (raiseIf (o .lost) s OR) f bad
+      ∙ ap (λ (b : Bool). b || (o .taken && not (o .lost) && not (f .stop))) (raise-keeps 1 (o .lost) s OR refl)
 
   pub pf-after : isSet 0 (statusAfter s o f bad idles) ≡ isSet 0 s || (o .taken && not (o .lost) && bad)
   unfolding member

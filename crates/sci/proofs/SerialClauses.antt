@@ -13,12 +13,12 @@ use Rattle.steps.specs.Iterate.{iterate}
 use Rattle.sci.specs.Flags.{RAF, flag}
 use Rattle.sci.specs.Members.{member}
 use Rattle.sci.specs.Status.{has, fall}
-use Rattle.sci.specs.Control.{SCBR, TE, RE, sccr0Bits, sccr1Bits}
+use Rattle.sci.specs.Control.{SCBR, TE, RE, RWU, sccr0Bits, sccr1Bits}
 use Rattle.sci.specs.Transmitter.{runs}
 use Rattle.sci.specs.Serial.{active, due, sampled, prescaled, clocked, sccr1Word, scsrWord, sccr0Set, wroteSccr0, withSccr1, stopped, wroteSccr1, asks}
 use Rattle.sci.specs.Quiet.{quiet, withCount, skipped}
 use Rattle.sci.specs.Wire.{Access, readStatus, readData, writeData, writeControl, accessed}
-use Rattle.sci.specs.SerialClauses.{bitsDown, flagsDown, Mapped, Queued, Stopped, REStops, Restarts, Paced, sources, someSet, SerialClauses}
+use Rattle.sci.specs.SerialClauses.{bitsDown, flagsDown, Mapped, Queued, Stopped, REStops, Sleeps, Restarts, Paced, sources, someSet, SerialClauses}
 use Rattle.sci.specs.declared.serial.Sci.{Sci}
 use Rattle.sci.proofs.Flagged.{isSet, has-flag, set-fall}
 use Rattle.sci.proofs.Quiet.{skips, plays}
@@ -44,7 +44,10 @@ module _ (s : Sci) (v : ℕ) where
   unfolding member
   off =
       record {
-        start = refl;
+        searching = refl;
+        no-ones = refl;
+        count = refl;
+        since = refl;
         raf = has-flag 5 (fall (s .status) RAF) ∙ set-fall 5 (s .status) RAF ∙ and-false (isSet 5 (s .status));
         others =
             λ k h.
@@ -62,6 +65,29 @@ unfolding wroteSccr1
 re-stops s v upper lower =
     let new : ℕ = merge (sccr1Word s) v upper lower in
     stops s new (RE new) refl
+
+-- RWU as it is written, and as it is read.
+rwu-merged : (a v : ℕ) (upper lower : Bool) → RWU (merge a v upper lower) ≡ cond lower (RWU v) (RWU a)
+rwu-merged a v upper true =
+    let e : merge a v upper true / 2 ^ 1 % 2 ≡ v / 2 ^ 1 % 2 = omega arith in
+    ap (λ (d : ℕ). eqb d 1) e
+rwu-merged a v upper false =
+    let e : merge a v upper false / 2 ^ 1 % 2 ≡ a / 2 ^ 1 % 2 = omega arith in
+    ap (λ (d : ℕ). eqb d 1) e
+
+rwu-read : (c : ℕ) (asleep : Bool) → RWU (cond asleep (sccr1Bits c + 2) (sccr1Bits c)) ≡ asleep
+rwu-read c true = eq-eqb ((sccr1Bits c + 2) / 2 ^ 1 % 2) 1 (omega arith)
+rwu-read c false = ne-eqb (sccr1Bits c / 2 ^ 1 % 2) 1 (λ e. omega arith)
+
+sleeps : Sleeps
+unfolding wroteSccr1
+sleeps s v upper lower =
+    let new : ℕ = merge (sccr1Word s) v upper lower in
+    go new (RE new) ∙ rwu-merged (sccr1Word s) v upper lower ∙ ap (cond lower (RWU v)) (rwu-read (s .sccr1) (s .receiver .asleep))
+  where
+    go : (w : ℕ) (b : Bool) → stopped b (withSccr1 s w) .receiver .asleep ≡ RWU w
+    go w true = refl
+    go w false = refl
 
 te-put : (w : ℕ) → TE (sccr1Bits w) ≡ TE w
 te-put w =
@@ -189,4 +215,4 @@ unfolding bitsDown flagsDown
 mapped = record { sccr1 = λ c. refl; scsr = refl }
 
 pub serial-clauses : SerialClauses
-serial-clauses = record { mapped = mapped; stops = re-stops; queued = queued; restarts = restarts; reset = refl; paced = paced; request = request }
+serial-clauses = record { mapped = mapped; stops = re-stops; sleeps = sleeps; queued = queued; restarts = restarts; reset = refl; paced = paced; request = request }

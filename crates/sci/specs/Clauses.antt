@@ -5,11 +5,13 @@ use lib.ListN.{length, replicate}
 use Rattle.sci.specs.ReceiverClauses.{ReceiverClauses}
 use Rattle.sci.specs.TransmitterClauses.{TransmitterClauses}
 use Rattle.sci.specs.SerialClauses.{SerialClauses}
+use Rattle.sci.specs.DataClauses.{DataClauses}
 use Rattle.sci.specs.Instances.{instances}
 
 pub record Clauses : Type 0 where
   pub receiver : ReceiverClauses
   pub transmitter : TransmitterClauses
   pub serial : SerialClauses
+  pub data-register : DataClauses
   -- What they ask for can be met.
   pub met : instances ≡ replicate (length instances) true

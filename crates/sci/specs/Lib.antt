@@ -26,6 +26,7 @@ pub mod Plain
 pub mod ReceiverClauses
 pub mod TransmitterClauses
 pub mod SerialClauses
+pub mod DataClauses
 pub mod Instances
 pub mod Clauses
 pub mod Figure

@@ -1,5 +1,5 @@
 -- Document 01: the clauses on the register map, on RE and TE, on the prescaler and on the request, in any state of the serial half.
-use mathlib.Core.Bool.{Bool, true, false, _&&_, _||_}
+use mathlib.Core.Bool.{Bool, true, false, cond, _&&_, _||_}
 use mathlib.Core.List.{List, [], _∷_}
 use mathlib.Core.Path.{_≡_}
 use Prim.Native.Nat.{ℕ, zero, suc, _*_, _%_, _^_, _<_}
@@ -9,7 +9,6 @@ use Rattle.sci.specs.Flags.{PF, FE, NF, OR, IDLE, RAF, RDRF, TC, TDRE, f
 use Rattle.sci.specs.Members.{member}
 use Rattle.sci.specs.Status.{has}
 use Rattle.sci.specs.Control.{SCBR, ILT, PT, PE, M, WAKE, TIE, TCIE, RIE, ILIE, TE, RE, RWU}
-use Rattle.sci.specs.Receiver.{startState}
 use Rattle.sci.specs.Transmitter.{runs}
 use Rattle.sci.specs.Serial.{resetSci, active, sampled, clocked, sccr1Word, scsrWord, wroteSccr0, wroteSccr1, asks}
 use Rattle.sci.specs.Quiet.{withCount}
@@ -32,9 +31,12 @@ pub record Mapped : Type 0 where
       ILT c ∷ PT c ∷ PE c ∷ M c ∷ WAKE c ∷ TIE c ∷ TCIE c ∷ RIE c ∷ ILIE c ∷ TE c ∷ RE c ∷ RWU c ∷ [] ≡ bitsDown 12 c
   pub scsr : TDRE ∷ TC ∷ RDRF ∷ RAF ∷ IDLE ∷ OR ∷ NF ∷ FE ∷ PF ∷ [] ≡ flagsDown 8
 
--- A write that leaves RE clear: the start state, RAF 0; the other flags stay.
+-- A write that leaves RE clear: searching, no ones seen, count 0, no frame since, RAF 0; the other flags and SCDR stay.
 pub record Stopped (s r : Sci) : Type 0 where
-  pub start : r .receiver ≡ startState (r .receiver)
+  pub searching : r .receiver .framer .framing ≡ false
+  pub no-ones : r .receiver .last1 || r .receiver .last2 || r .receiver .last3 ≡ false
+  pub count : r .receiver .idle ≡ 0
+  pub since : r .receiver .since ≡ false
   pub raf : has (r .status) RAF ≡ false
   pub others : (k : ℕ) → (k ≡ 5 → ⊥) → member k (r .status .flags) ≡ member k (s .status .flags)
   pub scdr : r .receiver .scdr ≡ s .receiver .scdr
@@ -42,6 +44,12 @@ pub record Stopped (s r : Sci) : Type 0 where
 abbrev pub REStops : Type 0
 REStops =
     (s : Sci) (v : ℕ) (upper lower : Bool) → RE (wroteSccr1 s v upper lower .sccr1) ≡ false → Stopped s (wroteSccr1 s v upper lower)
+
+-- A write of SCCR1's low byte puts RWU, with RE clear too; one of the other byte leaves it.
+abbrev pub Sleeps : Type 0
+Sleeps =
+    (s : Sci) (v : ℕ) (upper lower : Bool) →
+    wroteSccr1 s v upper lower .receiver .asleep ≡ cond lower (bit 1 v) (s .receiver .asleep)
 
 -- A write of SCCR1 and the transmitter: TE rising queues a preamble; TE falling forgets it, and lets what runs finish.
 pub record Queued (s r : Sci) : Type 0 where
@@ -91,6 +99,7 @@ someSet (p ∷ ps) scsr sccr1 = (bit (p .flag) scsr && bit (p .enable) sccr1) ||
 pub record SerialClauses : Type 0 where
   pub mapped : Mapped
   pub stops : REStops
+  pub sleeps : Sleeps
   pub queued : (s : Sci) (v : ℕ) (upper lower : Bool) → Queued s (wroteSccr1 s v upper lower)
   pub restarts : (s : Sci) → Restarts s
   pub reset : resetSci .prescaler ≡ 0
