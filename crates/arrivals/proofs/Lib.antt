@@ -1,0 +1,5 @@
+pub mod Clocks
+pub mod Accesses
+pub mod Events
+pub mod Records
+pub mod Tallies
