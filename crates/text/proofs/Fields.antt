@@ -1,4 +1,4 @@
--- How long the lines of a comparison can be: each has room. Assumes nothing.
+-- How long the lines of a comparison and of noise figures can be: each has room. Assumes nothing.
 use mathlib.Core.Bool.{not}
 use Prim.Native.Nat.{ℕ, _≤_}
 use native.Mathlib.Omega.{arith}
@@ -9,6 +9,7 @@ use Rattle.qsm.specs.declared.event.Answer.{Answer}
 use Rattle.text.specs.Line.{room}
 use Rattle.text.specs.Difference.{fieldName, kindText, refusalText, pinsText, levelText, fieldText, differenceLine}
 use Rattle.text.specs.Verdict.{equalLine, more, differLine, why, refusedLine}
+use Rattle.text.specs.Noise.{noiseLine, tallyLine}
 use Rattle.text.specs.declared.difference.Field.{Field}
 use Rattle.text.specs.declared.difference.Field.the-variants.{Kind, Refusal, Value, Levels, Mask, Level, Vector}
 use Rattle.text.specs.declared.log.Logged.{Logged}
@@ -70,3 +71,12 @@ differ-fits differing answers first second =
 
 pub refused-fits : (refusal : ℕ) → length (refusedLine refusal) ≤ room
 refused-fits refusal = simp length-append (omega (arith, decimal-length 3 refusal, why-length refusal))
+
+-- ---- the noise figures
+
+pub noise-fits : (n figure : ℕ) → length (noiseLine n figure) ≤ room
+noise-fits n figure = simp length-append (omega (arith, decimal-length 20 n, decimal-length 3 figure))
+
+pub tally-fits : (words noisy worst : ℕ) → length (tallyLine words noisy worst) ≤ room
+tally-fits words noisy worst =
+    simp length-append (omega (arith, decimal-length 20 words, decimal-length 20 noisy, decimal-length 3 worst))

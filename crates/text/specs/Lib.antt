@@ -8,4 +8,5 @@ pub mod Log
 pub mod Message
 pub mod Difference
 pub mod Verdict
+pub mod Noise
 pub mod Laws

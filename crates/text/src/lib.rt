@@ -6,6 +6,7 @@ pub mod difference;
 pub mod line;
 pub mod log;
 pub mod message;
+pub mod noise;
 pub mod number;
 pub mod record;
 pub mod register;
