@@ -11,8 +11,9 @@ use Rattle.trace.specs.Play.{play, Plays}
 use Rattle.trace.specs.declared.Played.{Played}
 use Rattle.trace.proofs.Laws.{ten-bytes-each}
 use Rattle.files.specs.Pieces.{counted, left, carried}
-use Rattle.replay.specs.Run.{Advances}
+use Rattle.replay.specs.Run.{Advances, Turns}
 use Rattle.replay.specs.declared.run.Run.{Run}
+use Rattle.replay.specs.declared.run.Next.{Next}
 use Rattle.replay.specs.declared.run.Advanced.{Advanced}
 
 drop-take : (k n : ℕ) (l : List ℕ) → k ≤ n → n ≤ length l → drop k (take n l) ≡ take (n - k) (drop k l)
@@ -51,3 +52,8 @@ module _ (r : Run) (buf out₀ out : List ℕ) (total : ℕ) (ended : Bool) (fit
             ∙ sym (drop-take (p .read) total buf within fits) ∙ ap (λ (k : ℕ). drop k t) (plays .read);
         stop = plays .stop;
       }
+
+-- A turn that plays what was read.
+pub turned : {r : Run} {t : List ℕ} {ended : Bool} {room : ℕ} {a : Advanced} {buf out : List ℕ} (next : Next) → Advances r t ended room a buf out
+    → Turns r room (record { run = a .run; next = next })
+turned {t = t} next advances = record { bytes = t; state = ap (λ (r : Run). r .state) (advances .run) }

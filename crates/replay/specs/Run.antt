@@ -1,9 +1,10 @@
 -- A trace played buffer by buffer. A record cut by the end of a buffer is carried forward; it is refused only at the end of the input.
 use mathlib.Core.Path.{_≡_}
-use mathlib.Core.Bool.{Bool, cond}
+use mathlib.Core.Bool.{Bool, false, cond}
 use mathlib.Core.List.{List, flatten}
 use Prim.Native.Nat.{ℕ, _-_}
 use lib.ListN.{length, take}
+use Rattle.qsm.specs.State.{resetModule}
 use Rattle.trace.specs.Play.{Outcome, stopNumber, play}
 use Rattle.trace.specs.Laws.{unread}
 use Rattle.trace.specs.declared.Stop.{Stop}
@@ -13,6 +14,11 @@ use Rattle.replay.specs.declared.run.Run.{Run}
 use Rattle.replay.specs.declared.run.Next.{Next}
 use Rattle.replay.specs.declared.run.Next.the-variants.{More, Done, Refused}
 use Rattle.replay.specs.declared.run.Advanced.{Advanced}
+use Rattle.replay.specs.declared.run.Turned.{Turned}
+
+-- Fresh from reset, with nothing read.
+abbrev pub started : Run
+started = record { state = resetModule; records = 0; place = 0; have = 0; ended = false }
 
 -- What follows a buffer. A full output is written, and the trace goes on.
 abbrev pub afterStop : Stop → Bool → Next
@@ -39,3 +45,9 @@ pub record Advances (r : Run) (t : List ℕ) (ended : Bool) (room : ℕ) (a : Ad
   pub log : take (a .written) out ≡ play (r .state) t room .answers
   pub rest : take (a .run .have) buf ≡ unread (play (r .state) t room) t
   pub stop : stopNumber (a .stop) ≡ play (r .state) t room .stop
+
+-- What a turn makes of the module: it plays some bytes, none where they can't be read, into the room that there is. Which bytes come is the
+-- system's.
+pub record Turns (r : Run) (room : ℕ) (t : Turned) : Type 0 where
+  pub bytes : List ℕ
+  pub state : t .run .state ≡ play (r .state) bytes room .state

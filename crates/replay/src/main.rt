@@ -6,6 +6,7 @@ use run::Next;
 use run::Turned;
 use text::line::Line;
 
+mod noise;
 mod run;
 
 fn say_line(line: Line) {
@@ -27,13 +28,25 @@ fn report(t: Turned, name: &[u8]) {
     }
 }
 
+fn play(fd: i32, noise: bool, name: &[u8]) {
+    if noise {
+        let n = noise::replay(fd);
+        let t = n.turned;
+        let tally = n.tally;
+        report(t, name);
+        noise::say_tally(tally);
+    } else {
+        report(run::replay(fd), name);
+    }
+}
+
 fn main() {
     let c = files::command::read(
         b"replay",
-        b"",
+        b"--noise",
         0,
         1,
-        b"usage: replay [TRACE]\n",
+        b"usage: replay [--noise] [TRACE]\n",
         b"\
 Plays a trace on a module fresh from reset and writes its log, ten bytes for each
 record, to standard output. Without TRACE, or with -, it reads standard input.
@@ -46,6 +59,13 @@ names these. A refusal of a record stops the trace before it. The log up to ther
 stands, and standard error says which record it was and where:
   5  unknown record kind
   6  record cut by the end of the trace
+
+With --noise standard error has a line for each word that enters SCDR, with its number
+from 0 and its noise figure, and at the end how many words there were, how many of them
+noisy, and the worst figure. A lost frame has none. The log is the same.
+  0: noise 0
+  1: noise 3
+  words 2, noisy 1, worst 3
 ",
     );
     if !c.go {
@@ -58,6 +78,6 @@ stands, and standard error says which record it was and where:
     if fd < 0 {
         return;
     }
-    report(run::replay(fd), &name[..n]);
+    play(fd, c.option, &name[..n]);
     libc::close(fd);
 }

@@ -5,7 +5,7 @@ ghost use Prim.Native.Nat.{_≤_};
 ghost use lib.ListN.{length, take};
 ghost use Rattle.io.specs.Counts.{Counts};
 ghost use Rattle.trace.specs.Play.{play, Plays};
-ghost use Rattle.replay.specs.Run.{afterStop, Advances};
+ghost use Rattle.replay.specs.Run.{started, afterStop, Advances, Turns};
 use files::pieces::carry;
 use files::pieces::counted;
 use files::pieces::fill;
@@ -24,6 +24,21 @@ pub struct Run {
     pub have: usize,
     // The input has ended.
     pub ended: bool,
+}
+
+impl Run {
+    // Fresh from reset, with nothing read.
+    pub fn start() -> Run
+        ensures { λ r. ⌜ r ≡ started ⌝ }
+    {
+        Run {
+            state: Module::reset(),
+            records: 0,
+            place: 0,
+            have: 0,
+            ended: false,
+        }
+    }
 }
 
 pub enum Next {
@@ -102,7 +117,10 @@ fn advance(run: Run, buf: &mut [u8], total: usize, ended: bool, out: &mut [u8]) 
 }
 
 // Reads once, plays what is there and writes its answers.
-fn turn(fd: i32, run: Run, buf: &mut [u8], out: &mut [u8]) -> Turned {
+// Ruled out: a module that is not what the bytes played leave; a wrong number of records.
+pub fn turn(fd: i32, run: Run, buf: &mut [u8], out: &mut [u8]) -> Turned
+    ensures { λ r. ⌜ Turns run (length (now (out .entry))) r ⌝ }
+{
     let f = fill(fd, buf, run.have, run.ended);
     if f.failed {
         return Turned {
@@ -136,13 +154,7 @@ fn answers() -> [u8; 655360]
 pub fn replay(fd: i32) -> Turned {
     let mut buf = io::large_buffer();
     let mut out = answers();
-    let mut run = Run {
-        state: Module::reset(),
-        records: 0,
-        place: 0,
-        have: 0,
-        ended: false,
-    };
+    let mut run = Run::start();
     let mut turns = u64::MAX;
     while turns > 0 {
         let t = turn(fd, run, &mut buf, &mut out);

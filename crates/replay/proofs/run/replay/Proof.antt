@@ -17,8 +17,8 @@ large-buffer-requires c κs = tt
 answers-requires : tie.Need-answers-requires Inv-loop μ-loop
 answers-requires c κs = tt
 
-reset-requires : tie.Need-reset-requires Inv-loop μ-loop
-reset-requires c κs = tt
+start-requires : tie.Need-start-requires Inv-loop μ-loop
+start-requires c κs = tt
 
 loop-holds : tie.Need-loop-holds Inv-loop μ-loop
 loop-holds c = (sym (c .before .before .large-buffer .ensures), sym (c .before .answers .ensures))
@@ -43,7 +43,7 @@ replay-spec =
     μ-loop
     large-buffer-requires
     answers-requires
-    reset-requires
+    start-requires
     loop-holds
     (λ c. search needs)
     (λ c. search needs)

@@ -1,0 +1,15 @@
+-- A trace played record by record, and the tally of the words that it brought.
+use mathlib.Core.List.{List}
+use mathlib.Core.Path.{_≡_}
+use Prim.Native.Nat.{ℕ}
+use Rattle.qsm.specs.State.{resetModule}
+use Rattle.arrivals.specs.Words.{words, leaves, figuresOf}
+use Rattle.arrivals.specs.Tally.{tallyOf}
+use Rattle.arrivals.specs.declared.Tally.{Tally}
+use Rattle.replay.specs.declared.run.Run.{Run}
+
+-- Module and tally are those of the records answered, one after the other from reset.
+pub record Notes (r : Run) (t : Tally) : Type 0 where
+  pub answered : List (List ℕ)
+  pub state : r .state ≡ leaves answered resetModule
+  pub tally : t ≡ tallyOf (figuresOf (words answered resetModule))

@@ -1,0 +1,95 @@
+// A trace played record by record: each word that enters SCDR is said with its number, from 0, and its noise figure.
+ghost use mathlib.Core.Path.{_≡_};
+ghost use Prim.Native.Nat.{_<_, _*_};
+ghost use lib.ListN.{length};
+ghost use Rattle.trace.specs.Trace.{answerLength};
+ghost use Rattle.arrivals.specs.Arrival.{arrival};
+ghost use Rattle.arrivals.specs.Tally.{withArrival};
+ghost use Rattle.replay.specs.Noted.{Notes};
+use crate::run::Next;
+use crate::run::Run;
+use crate::run::Turned;
+use crate::run::turn;
+use arrivals::Arrival;
+use arrivals::Tally;
+use files::output::write_first;
+use libc::STDERR_FILENO;
+use qsm::state::Module;
+use text::line::Line;
+
+// A run that has ended, and the tally of its words.
+pub struct Noted {
+    pub turned: Turned,
+    pub tally: Tally,
+}
+
+fn write_line(line: Line) {
+    let n = line.length;
+    let bytes = line.bytes;
+    write_first(STDERR_FILENO, &bytes, n);
+}
+
+pub fn say_tally(t: Tally) {
+    write_line(text::noise::tally_line(t.words, t.noisy, t.worst));
+}
+
+fn say_arrival(number: u64, a: Arrival) {
+    match a {
+        Arrival::Came(figure) => write_line(text::noise::noise_line(number, figure)),
+        Arrival::Nothing => {}
+    }
+}
+
+// The tally past a record, whose word, if one came, is said.
+fn note(before: Module, after: Module, tally: Tally) -> Tally
+    ensures { λ r. ⌜ r ≡ withArrival tally (arrival before after) ⌝ }
+{
+    let a = arrivals::arrived(before, after);
+    say_arrival(tally.words, a);
+    tally.with_arrival(a)
+}
+
+// Room for some records.
+fn records() -> [u8; 64]
+    ensures { λ r. ⌜ 64 ≡ length r ⌝ }
+{
+    [0u8; 64]
+}
+
+// Room for one answer, and not for two.
+fn answer() -> [u8; 10]
+    ensures { λ r. ⌜ answerLength ≡ length r ⌝ }
+{
+    [0u8; 10]
+}
+
+// Ruled out: a word left out or told twice; a figure of a lost frame in the tally.
+pub fn replay(fd: i32) -> Noted
+    ensures { λ r. ⌜ Notes (r .turned .run) (r .tally) ⌝ }
+{
+    let mut buf = records();
+    let mut out = answer();
+    let mut run = Run::start();
+    let mut tally = Tally::none();
+    let mut turns = u64::MAX;
+    while turns > 0 {
+        let was = run.state;
+        let t = turn(fd, run, &mut buf, &mut out);
+        let next = t.next;
+        let went = t.run;
+        let after = went.state;
+        tally = note(was, after, tally);
+        let Next::More = next else {
+            return Noted { turned: t, tally };
+        };
+        run = went;
+        turns -= 1;
+    }
+    Noted {
+        turned: Turned {
+            run,
+            next: Next::More,
+        },
+        tally,
+    }
+}
