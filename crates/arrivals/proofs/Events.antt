@@ -5,7 +5,7 @@ use mathlib.Core.List.{List, [], _∷_, _++_}
 use mathlib.Core.Option.{Option, none, some}
 use Prim.Native.Nat.{ℕ, zero, suc, _%_}
 use Rattle.sci.specs.Flags.{RDRF, OR}
-use Rattle.sci.specs.Status.{has}
+use Rattle.sci.specs.Status.{has, raise, raiseIf}
 use Rattle.sci.specs.Receiver.{outcome}
 use Rattle.sci.specs.ReceiverClauses.{rises}
 use Rattle.sci.specs.Transmitter.{sent}
@@ -30,7 +30,7 @@ use Rattle.histories.proofs.Follows.{follows}
 use Rattle.arrivals.specs.Words.{Word, comes, brought, clockWords, eventWords, bitsOf, figuresOf, came}
 use Rattle.arrivals.specs.Arrival.{fills, inScdr, told, arrival, figureOf}
 use Rattle.arrivals.specs.declared.Arrival.the-variants.{Came, Nothing}
-use Rattle.arrivals.specs.Shown.{AsMarked, Told, FigureTold}
+use Rattle.arrivals.specs.Shown.{AsMarked, Told, FigureTold, NoisyWord}
 use Rattle.arrivals.proofs.Clocks.{full, kept, clock-words, serial-words}
 use Rattle.arrivals.proofs.Accesses.{access-clear}
 
@@ -103,3 +103,7 @@ figure-told m left = go (fills m left)
 -- Where nothing happens nothing is told.
 pub still : (m : Module) → [] ≡ told m m
 still m = none-told m m (λ e. e)
+
+pub noisy-word : NoisyWord
+unfolding resetModule outcome sent has raise raiseIf
+noisy-word = refl

@@ -1,15 +1,17 @@
 -- What is shown of the words that enter SCDR, in every state of the module.
-use mathlib.Core.Bool.{Bool, true, false}
+use mathlib.Core.Bool.{true, false}
 use mathlib.Core.List.{List, [], _∷_, _++_}
 use mathlib.Core.Path.{_≡_}
 use Prim.Native.Nat.{ℕ, _*_, _<_}
-use Rattle.qsm.specs.State.{resetModule}
+use Rattle.sci.specs.Serial.{resetSci}
+use Rattle.qsm.specs.State.{resetModule, withSci}
 use Rattle.qsm.specs.declared.state.Module.{Module}
 use Rattle.qsm.specs.declared.event.Event.{Event}
+use Rattle.qsm.specs.declared.event.Event.the-variants.{Hold}
 use Rattle.trace.specs.Trace.{answerLength}
 use Rattle.trace.specs.Play.{Outcome, play}
 use Rattle.trace.specs.Laws.{unread, Buffer, streamed}
-use Rattle.histories.specs.History.{after, run, eventMarks}
+use Rattle.histories.specs.History.{after, eventMarks}
 use Rattle.arrivals.specs.Words.{Word, eventWords, words, leaves, bitsOf, figuresOf, came}
 use Rattle.arrivals.specs.Arrival.{arrival, told, figureOf}
 use Rattle.arrivals.specs.Tally.{tallyOf, withArrival}
@@ -56,6 +58,35 @@ AllTold =
 abbrev pub TallyGoesOn : Type 0
 TallyGoesOn = (fs : List ℕ) (a : Arrival) → withArrival (tallyOf fs) a ≡ tallyOf (fs ++ figureOf a)
 
+-- Words that are noisy do come: the receiver on, with two clocks to a sample, before RT10 of a stop bit, with the bits of the letter A and a sum of
+-- 2 so far; of RT8 and RT9 one disagrees.
+abbrev pub atStop : Module
+atStop =
+    withSci resetModule
+    (record {
+      sccr0 = 1;
+      sccr1 = 4;
+      status = resetSci .status;
+      prescaler = 1;
+      receiver =
+          record {
+            framer =
+                record { framing = true; starting = false; left = 0; rt = 9; first = true; second = false; noise = 2; moved = false; shift = 65 };
+            last1 = false;
+            last2 = true;
+            last3 = true;
+            idle = 0;
+            since = false;
+            asleep = false;
+            scdr = 0;
+            noise = 0;
+          };
+      transmitter = resetSci .transmitter;
+    })
+
+abbrev pub NoisyWord : Type 0
+NoisyWord = eventWords (Hold 0 true 1) atStop ≡ record { bits = 65; figure = 3 } ∷ []
+
 pub record Shown : Type 0 where
   pub as-marked : AsMarked
   pub told : Told
@@ -64,3 +95,4 @@ pub record Shown : Type 0 where
   pub state-left : StateLeft
   pub all-told : AllTold
   pub tally-goes-on : TallyGoesOn
+  pub noisy-word : NoisyWord

@@ -1,10 +1,11 @@
 // A trace played record by record: each word that enters SCDR is said with its number, from 0, and its noise figure.
 ghost use mathlib.Core.Path.{_≡_};
-ghost use Prim.Native.Nat.{_<_, _*_};
 ghost use lib.ListN.{length};
 ghost use Rattle.trace.specs.Trace.{answerLength};
 ghost use Rattle.arrivals.specs.Arrival.{arrival};
 ghost use Rattle.arrivals.specs.Tally.{withArrival};
+ghost use Rattle.text.specs.Line.{Shows};
+ghost use Rattle.text.specs.Noise.{noiseLine};
 ghost use Rattle.replay.specs.Noted.{Notes};
 use crate::run::Next;
 use crate::run::Run;
@@ -33,9 +34,16 @@ pub fn say_tally(t: Tally) {
     write_line(text::noise::tally_line(t.words, t.noisy, t.worst));
 }
 
-fn say_arrival(number: u64, a: Arrival) {
+// The line of the word that comes after those of the tally: its number, from 0, is how many came before it.
+fn word_line(tally: Tally, figure: u8) -> Line
+    ensures { λ r. ⌜ Shows r (noiseLine (tally .words) figure) ⌝ }
+{
+    text::noise::noise_line(tally.words, figure)
+}
+
+fn say_arrival(tally: Tally, a: Arrival) {
     match a {
-        Arrival::Came(figure) => write_line(text::noise::noise_line(number, figure)),
+        Arrival::Came(figure) => write_line(word_line(tally, figure)),
         Arrival::Nothing => {}
     }
 }
@@ -45,7 +53,7 @@ fn note(before: Module, after: Module, tally: Tally) -> Tally
     ensures { λ r. ⌜ r ≡ withArrival tally (arrival before after) ⌝ }
 {
     let a = arrivals::arrived(before, after);
-    say_arrival(tally.words, a);
+    say_arrival(tally, a);
     tally.with_arrival(a)
 }
 

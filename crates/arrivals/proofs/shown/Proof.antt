@@ -1,5 +1,5 @@
 use mathlib.Core.Path.{refl}
-use Rattle.arrivals.proofs.Events.{as-marked, event-told, figure-told}
+use Rattle.arrivals.proofs.Events.{as-marked, event-told, figure-told, noisy-word}
 use Rattle.arrivals.proofs.Records.{by-record, state-left, all-told}
 use Rattle.arrivals.proofs.Tallies.{tally-goes-on}
 use Rattle.arrivals.proofs.shown.Statement.{statement}
@@ -16,6 +16,7 @@ returns c = (
     state-left = state-left;
     all-told = all-told;
     tally-goes-on = tally-goes-on;
+    noisy-word = noisy-word;
   },
 )
 
