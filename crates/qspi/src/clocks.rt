@@ -1,5 +1,6 @@
 // So many clocks of the queue: those in which nothing but the count changes are taken at once.
 ghost use mathlib.Core.Path.{_≡_};
+ghost use Prim.Native.Nat.{_-_};
 ghost use Rattle.steps.specs.Iterate.{iterate};
 ghost use Rattle.qspi.specs.Queue.{clock};
 ghost use Rattle.qspi.specs.Quiet.{countedDown, beforeChange, quietIf, quiet, skippedIf, skipped, plays, untilEdge, edgeWithin};
@@ -14,34 +15,41 @@ use crate::fields::spe;
 use crate::inputs::miso_of;
 
 // Clocks before the next edge, the delay's end or clock 1.
-fn before_change(running: bool, ready: bool, left: u16) -> u16
+fn before_change(running: bool, ready: bool, left: u16) -> u32
     ensures { λ r. ⌜ r ≡ beforeChange running ready left ⌝ }
 {
     if running {
-        return minus(left, 1);
+        return minus(left, 1) as u32;
     }
-    if ready { 0 } else { 65535 }
+    if ready { 0 } else { 4294967295 }
+}
+
+// A count less k clocks.
+fn less(left: u16, k: u32) -> u16
+    ensures { λ r. ⌜ r ≡ left - k ⌝ }
+{
+    if k < left as u32 { left - k as u16 } else { 0 }
 }
 
 impl Entry {
     // k quiet clocks. In the delay PCS stay only with CONT.
-    fn counted_down(mut self, k: u16) -> Entry
+    fn counted_down(mut self, k: u32) -> Entry
         ensures { λ r. ⌜ r ≡ countedDown k self ⌝ }
     {
-        self.left = minus(self.left, k);
+        self.left = less(self.left, k);
         self.selecting = (self.playing | cont(self.command)) & self.selecting;
         self
     }
 
     // Clocks to the next edge, with its own.
-    fn until_edge(self) -> u16
+    fn until_edge(self) -> u32
         ensures { λ r. ⌜ r ≡ untilEdge self ⌝ }
     {
-        choose_word(self.left <= 1, 1, self.left)
+        choose_word(self.left <= 1, 1, self.left) as u32
     }
 
     // An edge before edge 2n falls in the next n clocks.
-    fn edge_within(self, spcr0: u16, n: u16) -> bool
+    fn edge_within(self, spcr0: u16, n: u32) -> bool
         ensures { λ r. ⌜ r ≡ edgeWithin spcr0 n self ⌝ }
     {
         let early = ((self.edges % 32 + 1) as u16) < bits_of(spcr0, self.command) * 2;
@@ -50,7 +58,7 @@ impl Entry {
 }
 
 impl Qspi {
-    fn quiet_if(self, enabled: bool, fault: bool) -> u16
+    fn quiet_if(self, enabled: bool, fault: bool) -> u32
         ensures { λ r. ⌜ r ≡ quietIf enabled fault self ⌝ }
     {
         if enabled {
@@ -64,17 +72,17 @@ impl Qspi {
                 )
             }
         } else {
-            65535
+            4294967295
         }
     }
 
-    fn quiet(self, pins: Pins) -> u16
+    fn quiet(self, pins: Pins) -> u32
         ensures { λ r. ⌜ r ≡ quiet self pins ⌝ }
     {
         self.quiet_if(spe(self.registers.spcr1), self.fault_now(pins))
     }
 
-    fn skipped_if(mut self, counts: bool, k: u16) -> Qspi
+    fn skipped_if(mut self, counts: bool, k: u32) -> Qspi
         ensures { λ r. ⌜ r ≡ skippedIf counts k self ⌝ }
     {
         if counts {
@@ -86,7 +94,7 @@ impl Qspi {
     }
 
     // k quiet clocks.
-    fn skipped(self, k: u16) -> Qspi
+    fn skipped(self, k: u32) -> Qspi
         ensures { λ r. ⌜ r ≡ skipped k self ⌝ }
     {
         self.skipped_if(
@@ -103,7 +111,7 @@ impl Qspi {
     }
 
     // n clocks, each run of quiet ones at once, and the edges before edge 2n in the entry alone.
-    fn played(self, n: u16, pins: Pins) -> Qspi
+    fn played(self, n: u32, pins: Pins) -> Qspi
         ensures { λ r. ⌜ r ≡ iterate n (λ q. clock q pins) self ⌝ }
     {
         let miso = miso_of(pins);
@@ -131,7 +139,7 @@ impl Qspi {
 
     // n clocks at one state of the pins.
     // Ruled out: only the first clock played; one clock too many; an edge lost among the quiet clocks.
-    pub fn clocks(self, n: u16, pins: Pins) -> Qspi
+    pub fn clocks(self, n: u32, pins: Pins) -> Qspi
         ensures { λ r. ⌜ r ≡ iterate n (λ q. clock q pins) self ⌝ }
     {
         if n <= self.quiet(pins) {

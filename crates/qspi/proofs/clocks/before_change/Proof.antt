@@ -6,4 +6,4 @@ returns : tie.Need-returns
 returns c = rw (c .minus .ensures, c .before .if1 .taken)
 
 pub before-change-spec : {M : Type 1} → statement M
-before-change-spec = tie.close (tie.spec (λ c κs. search needs) returns (λ c. search needs) (λ c. search needs))
+before-change-spec = tie.close (tie.spec (λ c κs. search needs) (λ c. search needs) returns (λ c. search needs) (λ c. search needs))
