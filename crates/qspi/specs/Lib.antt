@@ -6,6 +6,7 @@ pub mod Registers
 pub mod Ram
 pub mod Queue
 pub mod Quiet
+pub mod Same
 pub mod Outputs
 pub mod Run
 pub mod Laws
