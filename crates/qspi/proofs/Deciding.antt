@@ -92,8 +92,22 @@ entry-decided x y =
       collected = h .0 .1 i;
       selecting = h .1 i;
     })
-    (λ e. (((((((((ap (λ s. s .word) e, ap (λ s. s .command) e), ap (λ s. s .playing) e), ap (λ s. s .delaying) e), ap (λ s. s .halted) e),
-    ap (λ s. s .left) e), ap (λ s. s .edges) e), ap (λ s. s .mosi) e), ap (λ s. s .collected) e), ap (λ s. s .selecting) e))
+    (λ e. (
+      (
+        (
+          (
+            (
+              ((((ap (λ s. s .word) e, ap (λ s. s .command) e), ap (λ s. s .playing) e), ap (λ s. s .delaying) e), ap (λ s. s .halted) e),
+              ap (λ s. s .left) e,
+            ),
+            ap (λ s. s .edges) e,
+          ),
+          ap (λ s. s .mosi) e,
+        ),
+        ap (λ s. s .collected) e,
+      ),
+      ap (λ s. s .selecting) e,
+    ))
     (both (both (both (both (both (both (both (both (both (number (x .word) (y .word)) (number (x .command) (y .command)))
     (bit (x .playing) (y .playing))) (bit (x .delaying) (y .delaying))) (bit (x .halted) (y .halted))) (number (x .left) (y .left)))
     (number (x .edges) (y .edges))) (bit (x .mosi) (y .mosi))) (number (x .collected) (y .collected))) (bit (x .selecting) (y .selecting)))

@@ -1,16 +1,19 @@
 -- K7 to K10 from the laws. Assumes nothing.
-use mathlib.Core.Path.{_≡_, refl, ap}
+use mathlib.Core.Path.{_≡_, refl, ap, _∙_}
 use mathlib.Core.Bool.{true, false}
 use Prim.Native.Nat.{ℕ, zero, suc, _*_, _≤_}
 use native.Mathlib.Nat.{mul-le-mul}
 use native.Mathlib.Omega.{arith}
 use Rattle.qspi.specs.Fields.{spe, spbr, bitsOf, preDelay, delayAfter}
 use Rattle.qspi.specs.Registers.{reset, writeSpcr1}
-use Rattle.qspi.specs.Run.{run, edgeAt, lengthOf, beginsAt}
+use Rattle.qspi.specs.Queue.{completed}
+use Rattle.qspi.specs.Entry.{mosiAfter, collectedAfter}
+use Rattle.qspi.specs.Run.{run, edgeAt, lengthOf, beginsAt, waited, mosiBy, collectedBy}
 use Rattle.qspi.specs.Laws.{Starting}
-use Rattle.qspi.specs.Marked.{setUp, plain, around, longest, K7, K8, K9, K10}
+use Rattle.qspi.specs.Marked.{setUp, wrapping, ComesRound, plain, around, longest, K7, K8, K9, K10}
+use Rattle.qspi.specs.declared.Pins.{Pins}
 use Rattle.qspi.proofs.Bounds.{bits-small, pre-small, delay-small}
-use Rattle.qspi.proofs.Edges.{edges-fall}
+use Rattle.qspi.proofs.Edges.{hold-runs, last-edge, edges-fall}
 use Rattle.qspi.proofs.Delay.{in-delay, next-starts}
 use Rattle.qspi.proofs.Order.{entries-run, last-of-queue}
 use Rattle.qspi.proofs.Sooner.{not-sooner}
@@ -18,6 +21,18 @@ use Rattle.qspi.proofs.Sooner.{not-sooner}
 plain-starts : Starting plain
 unfolding setUp reset writeSpcr1
 plain-starts = record { on = refl; not-playing = refl; not-delaying = refl; goes = refl }
+
+wrapping-starts : Starting wrapping
+unfolding setUp reset writeSpcr1
+wrapping-starts = record { on = refl; not-playing = refl; not-delaying = refl; goes = refl }
+
+pub comes-round : ComesRound
+unfolding setUp reset writeSpcr1 bitsOf preDelay delayAfter completed mosiBy collectedBy mosiAfter collectedAfter
+comes-round =
+    let low : Pins = record { levels = 0; pqspar = 0; ddrqs = 0 } in
+    hold-runs low 49 wrapping
+    ∙ next-starts wrapping (λ c. low) wrapping-starts (λ c. refl) refl refl .0
+    ∙ ap waited (last-edge wrapping (λ c. low) wrapping-starts (λ c. refl))
 
 pub k7 : K7
 unfolding setUp reset writeSpcr1 bitsOf preDelay delayAfter

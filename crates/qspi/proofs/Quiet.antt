@@ -185,7 +185,7 @@ module _ (q : Qspi) (pins : Pins) (on : spe (q .registers .spcr1) ≡ true) (saf
   unfolding quiet
   quiet-here = rw (safe, on, p)
 
-until-edge : (e : Entry) → untilEdge e ≡ e .left - 1 + 1
+pub until-edge : (e : Entry) → untilEdge e ≡ e .left - 1 + 1
 until-edge e = by-test (leb (e .left) 1)
     (λ h. rw h (omega (arith, leb-true (e .left) 1 h))) (λ h. rw h (omega (arith, leb-false (e .left) 1 h)))
 

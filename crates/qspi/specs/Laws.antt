@@ -29,6 +29,12 @@ Calm pins = (c : ℕ) → selected (pins c) ≡ false
 abbrev pub HoldRuns : Type 0
 HoldRuns = (pins : Pins) (n : ℕ) (q : Qspi) → iterate n (λ r. clock r pins) q ≡ run (λ c. pins) n q
 
+-- A queue that is back in a state p clocks after it was in it stays in that round: of any clocks only the rest after whole periods counts.
+abbrev pub PeriodOut : Type 0
+PeriodOut =
+    (pins : Pins) (n p : ℕ) (q : Qspi) → 0 < p → iterate p (λ r. clock r pins) q ≡ q →
+    iterate n (λ r. clock r pins) q ≡ iterate (n % p) (λ r. clock r pins) q
+
 -- The clock of edge j as a formula.
 abbrev pub EdgeFormula : Type 0
 EdgeFormula = (e : Qspi) (j : ℕ) → 0 < j → edgeClock e j ≡ preIn e + (j - 1) * spbrIn e

@@ -1,11 +1,14 @@
--- The marked examples K7 to K10.
+-- The marked examples K7 to K10, and a queue that comes round.
 use mathlib.Core.Path.{_≡_}
 use mathlib.Core.Bool.{true, false}
 use Prim.Native.Nat.{ℕ, _≤_}
+use Rattle.steps.specs.Iterate.{iterate}
 use Rattle.qspi.specs.Fields.{spe}
 use Rattle.qspi.specs.Registers.{reset, writeSpcr0, writeSpcr1, writeSpcr2}
 use Rattle.qspi.specs.Ram.{writeCommand}
-use Rattle.qspi.specs.Queue.{entryAt}
+use Rattle.qspi.specs.Parts.{withNext, withSpsr}
+use Rattle.qspi.specs.Spsr.{raised, onlySpif}
+use Rattle.qspi.specs.Queue.{entryAt, clock}
 use Rattle.qspi.specs.Run.{run, lengthOf}
 use Rattle.qspi.specs.Laws.{Starting, Calm, QueueOver}
 use Rattle.qspi.specs.declared.Qspi.{Qspi}
@@ -28,6 +31,16 @@ around = setUp 0x8104 0x010E 0 0x8404
 -- SPBR 255, 16 bits, DSCK 0, DT with DTL 0.
 abbrev pub longest : Qspi
 longest = setUp 0x81FF 0x0F00 0x6060 0x8400
+
+-- SPBR 2, WREN: entry 0 over and over, before the clock 1 of a later round.
+abbrev pub wrapping : Qspi
+wrapping =
+    let q : Qspi = setUp 0x8102 0x4000 0 0x8404 in
+    withNext (withSpsr q (raised onlySpif (q .spsr))) (record { working = 0x4000; pointer = 0; pending = false })
+
+-- With every pin low it is back after 49 clocks, so that `PeriodOut` says something of it.
+abbrev pub ComesRound : Type 0
+ComesRound = iterate 49 (λ r. clock r (record { levels = 0; pqspar = 0; ddrqs = 0 })) wrapping ≡ wrapping
 
 -- Edge 16 at clock 64, entry 81.
 abbrev pub K7 : Type 0

@@ -1,12 +1,14 @@
 -- All that is shown of an entry and of a queue.
-use Rattle.qspi.specs.Laws.{HoldRuns, EdgeFormula, EdgesFall, LastEdge, SckTurns, SckRests, PcsShow, PcsDelay, MosiShows, MosiHolds, WordStored, UnusedZero, BitsInOrder, DelayRuns, NextStarts, HaltComes, HaltHolds, HaltReleases, QueueEnds, EntriesRun, QueueWraps, LastOfQueue, NotSooner, FaultAbandons, WriteAbandons}
+use Rattle.qspi.specs.Laws.{HoldRuns, PeriodOut, EdgeFormula, EdgesFall, LastEdge, SckTurns, SckRests, PcsShow, PcsDelay, MosiShows, MosiHolds, WordStored, UnusedZero, BitsInOrder, DelayRuns, NextStarts, HaltComes, HaltHolds, HaltReleases, QueueEnds, EntriesRun, QueueWraps, LastOfQueue, NotSooner, FaultAbandons, WriteAbandons}
 use Rattle.qspi.specs.Clauses.{Clauses}
 use Rattle.qspi.specs.FieldClauses.{FieldClauses}
 use Rattle.qspi.specs.FlagLaws.{FlagLaws}
-use Rattle.qspi.specs.Marked.{K7, K8, K9, K10}
+use Rattle.qspi.specs.Marked.{ComesRound, K7, K8, K9, K10}
 
 pub record Shown : Type 0 where
   pub hold-runs : HoldRuns
+  pub period-out : PeriodOut
+  pub comes-round : ComesRound
   pub edge-formula : EdgeFormula
   pub edges-fall : EdgesFall
   pub last-edge : LastEdge

@@ -42,7 +42,7 @@ impl Entry {
     }
 
     // Clocks to the next edge, with its own.
-    fn until_edge(self) -> u32
+    pub(crate) fn until_edge(self) -> u32
         ensures { λ r. ⌜ r ≡ untilEdge self ⌝ }
     {
         choose_word(self.left <= 1, 1, self.left) as u32
@@ -111,7 +111,7 @@ impl Qspi {
     }
 
     // n clocks, each run of quiet ones at once, and the edges before edge 2n in the entry alone.
-    fn played(self, n: u32, pins: Pins) -> Qspi
+    pub(crate) fn played(self, n: u32, pins: Pins) -> Qspi
         ensures { λ r. ⌜ r ≡ iterate n (λ q. clock q pins) self ⌝ }
     {
         let miso = miso_of(pins);
@@ -137,15 +137,16 @@ impl Qspi {
         q
     }
 
-    // n clocks at one state of the pins.
-    // Ruled out: only the first clock played; one clock too many; an edge lost among the quiet clocks.
+    // n clocks at one state of the pins. The cost doesn't grow with n: at most the edges up to the queue's end, and where it wraps those of
+    // three rounds, or of 4,096 clocks, more. A queue that is idle, halted or finished is still, and one that wraps comes back to a state.
+    // Ruled out: only the first clock played; one clock too many; an edge lost among the quiet clocks; a period one clock short taken out.
     pub fn clocks(self, n: u32, pins: Pins) -> Qspi
         ensures { λ r. ⌜ r ≡ iterate n (λ q. clock q pins) self ⌝ }
     {
         if n <= self.quiet(pins) {
             self.skipped(n)
         } else {
-            self.played(n, pins)
+            self.rounds(n, pins)
         }
     }
 }

@@ -8,6 +8,7 @@ pub mod outputs;
 pub mod queue;
 pub mod ram;
 pub mod registers;
+mod rounds;
 mod same;
 pub mod spsr;
 

@@ -26,7 +26,7 @@ pub struct Next {
 }
 
 // Where a queue with WREN goes on after its end.
-fn wrap_to(working: u16) -> u8
+pub(crate) fn wrap_to(working: u16) -> u8
     ensures { λ r. ⌜ r ≡ wrapTo working ⌝ }
 {
     choose(working / 8192 % 2 == 1, (working % 16) as u8, 0)
@@ -45,7 +45,7 @@ impl Qspi {
     }
 
     // Clock 1 takes the working copy, the command and the transmit word.
-    fn begun(mut self) -> Qspi
+    pub(crate) fn begun(mut self) -> Qspi
         ensures { λ r. ⌜ r ≡ begun self ⌝ }
     {
         let at = self.entry_at();

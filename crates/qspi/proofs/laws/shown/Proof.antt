@@ -4,6 +4,7 @@ use Rattle.qspi.specs.FlagLaws.{FlagLaws}
 use Rattle.qspi.proofs.laws.shown.Statement.{statement}
 use Rattle.qspi.proofs.laws.shown.Tie as tie
 use Rattle.qspi.proofs.Edges.{hold-runs, edge-formula, edges-fall, last-edge}
+use Rattle.qspi.proofs.Returning.{period-out}
 use Rattle.qspi.proofs.Lines.{sck-turns, sck-rests, pcs-show, pcs-delay, fault-abandons, write-abandons}
 use Rattle.qspi.proofs.Mosi.{mosi-shows, mosi-holds}
 use Rattle.qspi.proofs.Word.{word-stored, unused-zero, bits-in-order}
@@ -17,7 +18,7 @@ use Rattle.qspi.proofs.Rises.{modf-only, halta-only, halta-once}
 use Rattle.qspi.proofs.Miso.{miso-read, miso-zeros}
 use Rattle.qspi.proofs.FieldClauses.{field-clauses}
 use Rattle.qspi.proofs.FlagLaws.{flag-shows, flag-falls, falls-only, read-sees, seen-only, seen-lasts, reset-forgets}
-use Rattle.qspi.proofs.Marked.{k7, k8, k9, k10}
+use Rattle.qspi.proofs.Marked.{comes-round, k7, k8, k9, k10}
 
 clauses : Clauses
 clauses =
@@ -54,6 +55,8 @@ returns c = (
   refl,
   record {
     hold-runs = hold-runs;
+    period-out = period-out;
+    comes-round = comes-round;
     edge-formula = edge-formula;
     edges-fall = edges-fall;
     last-edge = last-edge;

@@ -20,10 +20,11 @@ returns c = differs _ _ (c .before .before .loop .i) (c .if1 .taken)
 loop-again : tie.Need-loop-again Inv-loop μ-loop
 loop-again c =
     let start = c .before .before .before in
-    let loop = c .before .before .loop in
-    (search needs,
+    let loop = c .before .before .loop in (
+      search needs,
       further 16 (start .args .t1) (start .args .t2) (good-length (eInt w16) 16 (start .args .t1) _ (start .good .0))
-      (good-length (eInt w16) 16 (start .args .t2) _ (start .good .1 .0)) (loop .i) (search needs) (loop .inv .1) (c .if1 .left))
+          (good-length (eInt w16) 16 (start .args .t2) _ (start .good .1 .0)) (loop .i) (search needs) (loop .inv .1) (c .if1 .left),
+    )
 
 returns-2 : tie.Need-returns-2 Inv-loop μ-loop
 returns-2 c =
