@@ -55,3 +55,4 @@ pub mod Clauses
 pub mod Figure
 pub mod Figures
 pub mod Moves
+pub mod Rest

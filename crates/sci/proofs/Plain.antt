@@ -22,11 +22,11 @@ use Rattle.sci.specs.declared.transmitter.Sent.{Sent}
 use Rattle.sci.specs.declared.serial.Sci.{Sci}
 
 -- Tests that fail, one of several.
-first : (a b : Bool) → (a && b) ≡ true → a ≡ true
+pub first : (a b : Bool) → (a && b) ≡ true → a ≡ true
 first true b h = refl
 first false b h = h
 
-second : (a b : Bool) → (a && b) ≡ true → b ≡ true
+pub second : (a b : Bool) → (a && b) ≡ true → b ≡ true
 second a true h = refl
 second true false h = h
 second false false h = h

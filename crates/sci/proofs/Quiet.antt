@@ -14,13 +14,13 @@ use Rattle.sci.specs.Quiet.{untilDue, quiet, withCount, skipped}
 use Rattle.sci.specs.declared.serial.Sci.{Sci}
 
 -- The test of a period against a count, before a sample and at it.
-early : (period p q k : ℕ) (b : Bool) → eqb period 0 ≡ b → suc k ≤ cond b 65535 (period - 1 - p) → q ≤ p + k →
+early : (period p q k : ℕ) (b : Bool) → eqb period 0 ≡ b → suc k ≤ cond b 4294967295 (period - 1 - p) → q ≤ p + k →
     (not (eqb period 0) && leb period (q + 1)) ≡ false
 early period p q k true e h l = rw e
 early period p q k false e h l = rw (e, lt-leb period (q + 1) (omega arith))
 
-late : (period p : ℕ) (b : Bool) → eqb period 0 ≡ b → period ≤ 65536 → cond b 65535 (period - 1 - p) < 65535 →
-    (not (eqb period 0) && leb period (min 65535 (p + cond b 65535 (period - 1 - p)) + 1)) ≡ true
+late : (period p : ℕ) (b : Bool) → eqb period 0 ≡ b → period ≤ 65536 → cond b 4294967295 (period - 1 - p) < 4294967295 →
+    (not (eqb period 0) && leb period (min 65535 (p + cond b 4294967295 (period - 1 - p)) + 1)) ≡ true
 late period p true e l h = absurd (omega arith)
 late period p false e l h = rw (e, le-leb period (min 65535 (p + (period - 1 - p)) + 1) (omega arith))
 
@@ -55,28 +55,28 @@ pub skips : (k : ℕ) (s : Sci) (x : Bool) → s .prescaler ≤ 65535 → k ≤ 
 unfolding quiet skipped
 skips k s x f h = go (active s) refl h
   where
-    go : (b : Bool) → active s ≡ b → k ≤ cond b (untilDue s) 65535 →
+    go : (b : Bool) → active s ≡ b → k ≤ cond b (untilDue s) 4294967295 →
         iterate k (λ s. clocked s x) s ≡ cond b (withCount s (min 65535 (s .prescaler + k))) s
     go true a h = running k s x f a h
     go false a h = still k s x a
 
 -- The clock after them is a sample, and it forgets the count.
-due-next : (s : Sci) (x : Bool) → quiet s < 65535 → clocked (skipped (quiet s) s) x ≡ sampled s x
+due-next : (s : Sci) (x : Bool) → quiet s < 4294967295 → clocked (skipped (quiet s) s) x ≡ sampled s x
 unfolding quiet skipped clocked sampled
 due-next s x h = go (active s) refl h
   where
-    go : (b : Bool) → active s ≡ b → cond b (untilDue s) 65535 < 65535 →
-        clocked (cond b (withCount s (min 65535 (s .prescaler + cond b (untilDue s) 65535))) s) x ≡ sampled s x
+    go : (b : Bool) → active s ≡ b → cond b (untilDue s) 4294967295 < 4294967295 →
+        clocked (cond b (withCount s (min 65535 (s .prescaler + cond b (untilDue s) 4294967295))) s) x ≡ sampled s x
     go true a h = rw (a, late (2 * SCBR (s .sccr0)) (s .prescaler) (eqb (2 * SCBR (s .sccr0)) 0) refl (omega arith) h)
     go false a h = absurd (omega arith)
 
-pub plays : (s : Sci) (x : Bool) → s .prescaler ≤ 65535 → quiet s < 65535 →
+pub plays : (s : Sci) (x : Bool) → s .prescaler ≤ 65535 → quiet s < 4294967295 →
     iterate (suc (quiet s)) (λ s. clocked s x) s ≡ sampled s x
 unfolding iterate
 plays s x f h = ap (λ (t : Sci). clocked t x) (skips (quiet s) s x f (omega arith)) ∙ due-next s x h
 
 -- A turn of the loop over n clocks: to the next sample.
-pub turn : (n : ℕ) (s : Sci) (x : Bool) → s .prescaler ≤ 65535 → n ≤ 65535 → quiet s < n →
+pub turn : (n : ℕ) (s : Sci) (x : Bool) → s .prescaler ≤ 65535 → n ≤ 4294967295 → quiet s < n →
     iterate (n - (quiet s + 1)) (λ s. clocked s x) (sampled s x) ≡ iterate n (λ s. clocked s x) s
 turn n s x f fits h =
     let all : n - (quiet s + 1) + suc (quiet s) ≡ n = omega arith in

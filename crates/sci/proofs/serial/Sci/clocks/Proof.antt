@@ -1,12 +1,14 @@
 -- The invariant: what is left of the n clocks brings the state to where all n bring the first one, and k of them are quiet.
-use Prim.Native.Nat.{_<_, _≤_}
-use mathlib.Core.Path.{_≡_, refl}
+use Prim.Native.Nat.{_+_, _-_, _<_, _≤_}
+use mathlib.Core.Path.{_≡_, refl, _∙_}
+use mathlib.Core.Logic.{⊎-elim}
 use native.Mathlib.Omega.{arith}
 use borrow.Author.Needs.{needs}
 use Rattle.steps.specs.Iterate.{iterate}
 use Rattle.sci.specs.Serial.{clocked}
 use Rattle.sci.specs.Quiet.{quiet}
 use Rattle.sci.proofs.Quiet.{skips, turn, restarts}
+use Rattle.sci.proofs.Rest.{shortened-less, shortens}
 use Rattle.sci.proofs.serial.Sci.clocks.Statement.{statement}
 use Rattle.sci.proofs.serial.Sci.clocks.Tie as tie
 
@@ -20,17 +22,32 @@ abbrev μ-loop : tie.MeasureT-loop
 loop-holds : tie.Need-loop-holds Inv-loop μ-loop
 loop-holds c = (omega arith, (c .quiet .ensures, (omega arith, refl)))
 
+loop-less : tie.Need-loop-less Inv-loop μ-loop
+loop-less c =
+    let at = c .before .before .before .before in
+    let x = at .before .before .args .x in
+    let after = at .loop .left - (at .loop .k + 1) in
+    let less = shortened-less after (c .before .before .sample .result) x in
+    ⊎-elim (λ w. omega (arith, w .2, w .1 .ensures, less)) (λ w. omega (arith, w .1)) (c .before .if1 .came)
+
 loop-again : tie.Need-loop-again Inv-loop μ-loop
 loop-again c =
-    let at : _ = c .before .before .before .loop in
-    let below : quiet (at .s) < at .left = omega (arith, at .inv .1 .0, c .before .before .loop-test .taken) in (
-      omega arith,
+    let at = c .before .before .before .before in
+    let s = c .before .before .sample .result in
+    let x = at .before .before .args .x in
+    let after = at .loop .left - (at .loop .k + 1) in
+    let less = shortened-less after s x in
+    let below : quiet (at .loop .s) < at .loop .left = omega (arith, at .loop .inv .1 .0, c .before .before .before .loop-test .taken) in
+    let start : s .prescaler ≡ 0 = rw (c .before .before .sample .ensures, restarts) in
+    let turned : iterate after (λ s. clocked s x) s ≡ iterate (at .before .before .args .n) (λ s. clocked s x) (at .before .before .args .self) =
+    rw (c .before .before .sample .ensures, at .loop .inv .1 .0, turn (at .loop .left) (at .loop .s) x (at .loop .inv .1 .1 .0) (omega arith) below)
+    (at .loop .inv .1 .1 .1) in (
+      ⊎-elim (λ w. omega (arith, w .2, w .1 .ensures, less, at .loop .inv .0)) (λ w. omega (arith, w .1, at .loop .inv .0)) (c .before .if1 .came),
       (
         c .quiet2 .ensures,
         (
-          rw (c .before .sample .ensures, restarts) (omega arith),
-          rw (c .before .sample .ensures, at .inv .1 .0, turn (at .left) (at .s) _ (at .inv .1 .1 .0) (omega arith) below)
-              (at .inv .1 .1 .1),
+          omega (arith, start),
+          ⊎-elim (λ w. rw (w .2, w .1 .ensures) (shortens after s x start ∙ turned)) (λ w. rw (w .1) turned) (c .before .if1 .came),
         ),
       ),
     )
@@ -51,7 +68,8 @@ clocks-spec =
     (λ c. search needs)
     (λ c. search needs)
     (λ c κs. tt)
-    (λ c. search needs)
+    (λ c κs. tt)
+    loop-less
     loop-again
     (λ c κs. tt)
     returns)
