@@ -6,7 +6,7 @@ use native.Mathlib.Omega.{arith}
 use lib.Dec.{eqb, leb}
 use borrow.Author.Tests.{le-leb, lt-leb}
 use Rattle.steps.specs.Iterate.{iterate}
-use Rattle.steps.proofs.Iterate.{iterate-add}
+use Rattle.steps.proofs.Iterate.{iterate-add, iterate-fixed}
 use Rattle.sci.specs.Control.{SCBR, RE}
 use Rattle.sci.specs.Transmitter.{sent}
 use Rattle.sci.specs.Serial.{active, heard, afterSent, sampled, clocked}
@@ -45,11 +45,6 @@ rests : (s : Sci) (x : Bool) → active s ≡ false → clocked s x ≡ s
 unfolding clocked
 rests s x a = rw a
 
-still : (k : ℕ) (s : Sci) (x : Bool) → active s ≡ false → iterate k (λ s. clocked s x) s ≡ s
-unfolding iterate
-still zero s x a = refl
-still (suc k) s x a = ap (λ (t : Sci). clocked t x) (still k s x a) ∙ rests s x a
-
 -- Up to `quiet` clocks are `skipped`.
 pub skips : (k : ℕ) (s : Sci) (x : Bool) → s .prescaler ≤ 65535 → k ≤ quiet s → iterate k (λ s. clocked s x) s ≡ skipped k s
 unfolding quiet skipped
@@ -58,7 +53,7 @@ skips k s x f h = go (active s) refl h
     go : (b : Bool) → active s ≡ b → k ≤ cond b (untilDue s) 4294967295 →
         iterate k (λ s. clocked s x) s ≡ cond b (withCount s (min 65535 (s .prescaler + k))) s
     go true a h = running k s x f a h
-    go false a h = still k s x a
+    go false a h = iterate-fixed k (λ s. clocked s x) s (rests s x a)
 
 -- The clock after them is a sample, and it forgets the count.
 due-next : (s : Sci) (x : Bool) → quiet s < 4294967295 → clocked (skipped (quiet s) s) x ≡ sampled s x
