@@ -64,7 +64,7 @@ of-reset = record { params = []; does = λ m p. answered resets; event = λ p. R
 abbrev pub of-hold : Kind
 of-hold =
     record {
-      params = number w8 ∷ truth ∷ number w16 ∷ [];
+      params = number w8 ∷ truth ∷ number w32 ∷ [];
       does = λ m p. answered (holds m (p .0) (p .1 .0) (p .1 .1 .0));
       event = λ p. Hold (p .0) (p .1 .0) (p .1 .1 .0);
       is-step = λ m p. hold-steps m (p .0) (p .1 .0) (p .1 .1 .0);

@@ -38,7 +38,7 @@ pub fn reset(m: &mut Module) -> Answer
 }
 
 // Ruled out: the clocks of the hold before; the module from before the hold's clocks.
-pub fn hold(m: &mut Module, pins: u8, rxd: bool, clocks: u16) -> Answer
+pub fn hold(m: &mut Module, pins: u8, rxd: bool, clocks: u32) -> Answer
     ensures { λ r. ⌜ Applied (now (m .entry)) (Hold pins rxd clocks) (now (m .exit)) r ⌝ }
 {
     let s = *m;

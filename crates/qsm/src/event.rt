@@ -27,7 +27,7 @@ pub enum Access {
 // An event is a reset, a hold of pin levels, an RXD level and so many clocks, or an access.
 pub enum Event {
     Reset,
-    Hold(u8, bool, u16),
+    Hold(u8, bool, u32),
     Access(Access),
 }
 
@@ -72,7 +72,7 @@ impl Module {
     }
 
     // So many clocks at the levels of the last hold and a level on RXD. The halves don't depend on each other within a hold.
-    fn clocks(mut self, rxd: bool, n: u16) -> Module
+    fn clocks(mut self, rxd: bool, n: u32) -> Module
         ensures { λ r. ⌜ r ≡ clocks self rxd n ⌝ }
     {
         let pins = qspi::Pins {
@@ -146,7 +146,7 @@ impl Module {
         }
     }
 
-    fn holds(self, pins: u8, rxd: bool, clocks: u16) -> Done
+    fn holds(self, pins: u8, rxd: bool, clocks: u32) -> Done
         ensures { λ r. ⌜ r ≡ holds self pins rxd clocks ⌝ }
     {
         self.held(pins).clocks(rxd, clocks).done(0, 0)
@@ -240,7 +240,7 @@ pub fn reset() -> Stepped
 }
 
 // Ruled out: only the first clock played; the levels of the hold before it.
-pub fn hold(m: Module, pins: u8, rxd: bool, clocks: u16) -> Stepped
+pub fn hold(m: Module, pins: u8, rxd: bool, clocks: u32) -> Stepped
     ensures { λ r. ⌜ r ≡ answered (holds m pins rxd clocks) ⌝ }
 {
     let d = m.holds(pins, rxd, clocks);

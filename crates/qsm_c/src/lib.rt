@@ -44,7 +44,7 @@ pub extern "C" fn qsm_reset(m: &mut Module) -> Answer
 
 // Ruled out: the levels of the hold before; only the first clock played.
 #[no_mangle]
-pub extern "C" fn qsm_hold(m: &mut Module, pins: u8, rxd: bool, clocks: u16) -> Answer
+pub extern "C" fn qsm_hold(m: &mut Module, pins: u8, rxd: bool, clocks: u32) -> Answer
     ensures { λ r. ⌜ Applied (now (m .entry)) (Hold pins rxd clocks) (now (m .exit)) r ⌝ }
 {
     let s = *m;

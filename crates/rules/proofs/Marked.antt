@@ -29,6 +29,7 @@ use Rattle.qsm.specs.declared.event.Access.the-variants.{Read}
 use Rattle.qsm.specs.declared.event.Event.the-variants.{Reset}
 use Rattle.qsm.specs.declared.event.Event.the-variants as event
 use Rattle.steps.specs.Iterate.{iterate}
+use Rattle.trace.specs.Trace.{everyKind}
 use Rattle.trace.specs.Play.{Outcome, answered, followed, stopped, play}
 use Rattle.trace.proofs.Playing.{one-on, play-none}
 use Rattle.rules.specs.Marked.{trace, answers, K12, Marked}
@@ -68,11 +69,11 @@ two : (m : Module) (room : ℕ) → 20 ≤ room →
     (followed (answered (step (step m Reset .state) (event.Access (Read true 2 0x0C))) (take 4 (drop 1 trace)))
     (stopped (step (step m Reset .state) (event.Access (Read true 2 0x0C)) .state) 0))
 two m room enough =
-    one-on m trace room Reset 1 refl (omega arith)
+    one-on everyKind m trace room Reset 1 refl (omega arith)
     ∙ ap (followed (answered (step m Reset) (take 1 trace)))
-    (one-on (step m Reset .state) (drop 1 trace) (room - 10) (event.Access (Read true 2 0x0C)) 4 refl (omega arith)
+    (one-on everyKind (step m Reset .state) (drop 1 trace) (room - 10) (event.Access (Read true 2 0x0C)) 4 refl (omega arith)
     ∙ ap (followed (answered (step (step m Reset .state) (event.Access (Read true 2 0x0C))) (take 4 (drop 1 trace))))
-    (play-none (step (step m Reset .state) (event.Access (Read true 2 0x0C)) .state) [] (room - 10 - 10) refl))
+    (play-none everyKind (step (step m Reset .state) (event.Access (Read true 2 0x0C)) .state) [] (room - 10 - 10) refl))
 
 k12 : K12
 unfolding has step does resets reads answerOf afterRead readValue refused resetModule reset request mask owned ownLevels levels decideRead admitted inMap isRestricted decode fetched fetch iterate peek peekSerial serialRead queueRead markSeen

@@ -10,7 +10,7 @@ use borrow.Author.Tests.{ne-eqb, eqb-true, eqb-false, ltb-true, ltb-false}
 use Rattle.qsm.specs.Event.{step}
 use Rattle.qsm.specs.declared.state.Module.{Module}
 use Rattle.qsm.specs.declared.event.Event.{Event}
-use Rattle.trace.specs.Trace.{parsed, byteAt, byKind}
+use Rattle.trace.specs.Trace.{everyKind, parsed, byteAt, byKind}
 use Rattle.trace.specs.Play.{Outcome, stopped, answered, followed, turn, play}
 use Rattle.trace.specs.declared.Parsed.{Parsed}
 use Rattle.trace.specs.declared.Parsed.the-variants.{Record, Unknown, Cut}
@@ -20,50 +20,60 @@ use Rattle.trace.specs.Laws.{unknown, cut, recordLength}
 use Rattle.rules.specs.Demand1.{Refusal5, Refusal6, Refusal7, Ends, rest, left, over}
 use Rattle.rules.proofs.Tests.{absurd-bool}
 
-no-kind : (a b c d : Bool) (p q r s u : Parsed) → not (a || b || c || d) ≡ true →
-    cond a p (cond b q (cond c r (cond d s u))) ≡ u
-no-kind true b c d p q r s u h = absurd-bool h
-no-kind false true c d p q r s u h = absurd-bool h
-no-kind false false true d p q r s u h = absurd-bool h
-no-kind false false false true p q r s u h = absurd-bool h
-no-kind false false false false p q r s u h = refl
+no-kind : (a b c d l : Bool) (p q r s t u : Parsed) → not (a || b || c || d || l) ≡ true →
+    cond a p (cond b q (cond c r (cond d s (cond l t u)))) ≡ u
+no-kind true b c d l p q r s t u h = absurd-bool h
+no-kind false true c d l p q r s t u h = absurd-bool h
+no-kind false false true d l p q r s t u h = absurd-bool h
+no-kind false false false true l p q r s t u h = absurd-bool h
+no-kind false false false false true p q r s t u h = absurd-bool h
+no-kind false false false false false p q r s t u h = refl
 
-is-cut : (a b c d : Bool) (n : ℕ) (e f g h : Event) → 0 < n → not (a || b || c || d) ≡ false →
-    ltb n (cond a 1 (cond b 5 (cond c 4 8))) ≡ true →
-    cond a (Record e 1) (cond b (cond (ltb n 5) Cut (Record f 5)) (cond c (cond (ltb n 4) Cut (Record g 4)) (cond d (cond (ltb n 8) Cut (Record h 8)) Unknown)))
-    ≡ Cut
-is-cut true b c d n e f g h pos k less = absurd (omega (arith, ltb-true n 1 less))
-is-cut false true c d n e f g h pos k less = rw less
-is-cut false false true d n e f g h pos k less = rw less
-is-cut false false false true n e f g h pos k less = rw less
-is-cut false false false false n e f g h pos k less = absurd-bool (sym k)
+-- The kinds in order, by their tests: what a record of n bytes is, and its length.
+abbrev chain : Bool → Bool → Bool → Bool → Bool → ℕ → Event → Event → Event → Event → Event → Parsed
+chain a b c d l n e f g h i =
+    cond a (Record e 1)
+    (cond b (cond (ltb n 5) Cut (Record f 5))
+    (cond c (cond (ltb n 4) Cut (Record g 4))
+    (cond d (cond (ltb n 8) Cut (Record h 8)) (cond l (cond (ltb n 7) Cut (Record i 7)) Unknown))))
 
-is-whole : (a b c d : Bool) (n : ℕ) (e f g h : Event) → not (a || b || c || d) ≡ false →
-    ltb n (cond a 1 (cond b 5 (cond c 4 8))) ≡ false →
-    (x : Event) × (cond a (Record e 1) (cond b (cond (ltb n 5) Cut (Record f 5)) (cond c (cond (ltb n 4) Cut (Record g 4)) (cond d (cond (ltb n 8) Cut (Record h 8)) Unknown)))
-    ≡ Record x (cond a 1 (cond b 5 (cond c 4 8))))
-is-whole true b c d n e f g h k all = (e, refl)
-is-whole false true c d n e f g h k all = (f, rw all)
-is-whole false false true d n e f g h k all = (g, rw all)
-is-whole false false false true n e f g h k all = (h, rw all)
-is-whole false false false false n e f g h k all = absurd-bool (sym k)
+abbrev lengthBy : Bool → Bool → Bool → Bool → ℕ
+lengthBy a b c d = cond a 1 (cond b 5 (cond c 4 (cond d 8 7)))
+
+is-cut : (a b c d l : Bool) (n : ℕ) (e f g h i : Event) → 0 < n → not (a || b || c || d || l) ≡ false →
+    ltb n (lengthBy a b c d) ≡ true → chain a b c d l n e f g h i ≡ Cut
+is-cut true b c d l n e f g h i pos k less = absurd (omega (arith, ltb-true n 1 less))
+is-cut false true c d l n e f g h i pos k less = rw less
+is-cut false false true d l n e f g h i pos k less = rw less
+is-cut false false false true l n e f g h i pos k less = rw less
+is-cut false false false false true n e f g h i pos k less = rw less
+is-cut false false false false false n e f g h i pos k less = absurd-bool (sym k)
+
+is-whole : (a b c d l : Bool) (n : ℕ) (e f g h i : Event) → not (a || b || c || d || l) ≡ false →
+    ltb n (lengthBy a b c d) ≡ false → (x : Event) × (chain a b c d l n e f g h i ≡ Record x (lengthBy a b c d))
+is-whole true b c d l n e f g h i k all = (e, refl)
+is-whole false true c d l n e f g h i k all = (f, rw all)
+is-whole false false true d l n e f g h i k all = (g, rw all)
+is-whole false false false true l n e f g h i k all = (h, rw all)
+is-whole false false false false true n e f g h i k all = (i, rw all)
+is-whole false false false false false n e f g h i k all = absurd-bool (sym k)
 
 -- A trace that isn't over is parsed by its kind.
 begun : (t : List ℕ) → 0 < length t → parsed t ≡ byKind (byteAt t 0) t
 begun t pos = simp (ne-eqb (length t) 0 (λ z. omega arith))
 
 unknown-is : (t : List ℕ) → 0 < length t → unknown t ≡ true → parsed t ≡ Unknown
-unknown-is t pos h = begun t pos ∙ no-kind (eqb (byteAt t 0) 1) (eqb (byteAt t 0) 2) (eqb (byteAt t 0) 3) (eqb (byteAt t 0) 4) _ _ _ _ _ h
+unknown-is t pos h = begun t pos ∙ no-kind (eqb (byteAt t 0) 1) (eqb (byteAt t 0) 2) (eqb (byteAt t 0) 3) (eqb (byteAt t 0) 4) (eqb (byteAt t 0) 5) _ _ _ _ _ _ h
 
 cut-is : (t : List ℕ) → 0 < length t → unknown t ≡ false → cut t ≡ true → parsed t ≡ Cut
 cut-is t pos h k =
     begun t pos
-    ∙ is-cut (eqb (byteAt t 0) 1) (eqb (byteAt t 0) 2) (eqb (byteAt t 0) 3) (eqb (byteAt t 0) 4) (length t) _ _ _ _ pos h k
+    ∙ is-cut (eqb (byteAt t 0) 1) (eqb (byteAt t 0) 2) (eqb (byteAt t 0) 3) (eqb (byteAt t 0) 4) (eqb (byteAt t 0) 5) (length t) _ _ _ _ _ pos h k
 
 whole-is : (t : List ℕ) → 0 < length t → unknown t ≡ false → cut t ≡ false →
     (e : Event) × (parsed t ≡ Record e (recordLength t))
 whole-is t pos h k =
-    let w = is-whole (eqb (byteAt t 0) 1) (eqb (byteAt t 0) 2) (eqb (byteAt t 0) 3) (eqb (byteAt t 0) 4) (length t) _ _ _ _ h k in
+    let w = is-whole (eqb (byteAt t 0) 1) (eqb (byteAt t 0) 2) (eqb (byteAt t 0) 3) (eqb (byteAt t 0) 4) (eqb (byteAt t 0) 5) (length t) _ _ _ _ _ h k in
     (w .0, begun t pos ∙ w .1)
 
 -- What stops a trace, by the tests of its rest.
@@ -79,21 +89,21 @@ some t h = let ne : length t ≡ 0 → ⊥ = eqb-false (length t) 0 h in omega (
 first-stop : (m : Module) (t : List ℕ) (room : ℕ) (o u c f : Bool) → over t ≡ o → unknown t ≡ u → cut t ≡ c →
     ltb room 10 ≡ f → length (play m t room .records) ≡ 0 → Stopping (play m t room .stop) o u c f
 first-stop m t room true u c f io iu ic is none =
-    subst (λ (p : Outcome). Stopping (p .stop) true u c f) (sym (play-none m t room (eqb-true (length t) 0 io))) (refl, refl, refl, refl)
+    subst (λ (p : Outcome). Stopping (p .stop) true u c f) (sym (play-none everyKind m t room (eqb-true (length t) 0 io))) (refl, refl, refl, refl)
 first-stop m t room false true c f io iu ic is none =
     subst (λ (p : Outcome). Stopping (p .stop) false true c f)
-    (sym (unroll m t room (some t io) ∙ ap (turn play m t room) (unknown-is t (some t io) iu))) (refl, refl, refl, refl)
+    (sym (unroll everyKind m t room (some t io) ∙ ap (turn play m t room) (unknown-is t (some t io) iu))) (refl, refl, refl, refl)
 first-stop m t room false false true f io iu ic is none =
     subst (λ (p : Outcome). Stopping (p .stop) false false true f)
-    (sym (unroll m t room (some t io) ∙ ap (turn play m t room) (cut-is t (some t io) iu ic))) (refl, refl, refl, refl)
+    (sym (unroll everyKind m t room (some t io) ∙ ap (turn play m t room) (cut-is t (some t io) iu ic))) (refl, refl, refl, refl)
 first-stop m t room false false false true io iu ic is none =
     let full : turn play m t room (Record (whole-is t (some t io) iu ic .0) (recordLength t)) ≡ stopped m 7 = simp is in
     subst (λ (p : Outcome). Stopping (p .stop) false false false true)
-    (sym (unroll m t room (some t io) ∙ ap (turn play m t room) (whole-is t (some t io) iu ic .1) ∙ full)) (refl, refl, refl, refl)
+    (sym (unroll everyKind m t room (some t io) ∙ ap (turn play m t room) (whole-is t (some t io) iu ic .1) ∙ full)) (refl, refl, refl, refl)
 first-stop m t room false false false false io iu ic is none =
     let w = whole-is t (some t io) iu ic in
     let one : play m t room ≡ followed (answered (step m (w .0)) (take (recordLength t) t)) (play (step m (w .0) .state) (drop (recordLength t) t) (room - 10))
-    = one-on m t room (w .0) (recordLength t) (w .1) (ltb-false room 10 is) in
+    = one-on everyKind m t room (w .0) (recordLength t) (w .1) (ltb-false room 10 is) in
     let more : length (play m t room .records) ≡ suc (length (play (step m (w .0) .state) (drop (recordLength t) t) (room - 10) .records))
     = ap (λ (p : Outcome). length (p .records)) one in
     absurd (omega (arith, none, more))

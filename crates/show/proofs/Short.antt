@@ -66,7 +66,8 @@ short-record t =
     (by-test (ShortRecord t) (eqb (byteAt t 0) 1) _ _ (λ _. tt)
     (by-test (ShortRecord t) (eqb (byteAt t 0) 2) _ _ (λ _. short-whole t 5 _ (omega arith))
     (by-test (ShortRecord t) (eqb (byteAt t 0) 3) _ _ (λ _. short-whole t 4 _ (omega arith))
-    (by-test (ShortRecord t) (eqb (byteAt t 0) 4) _ _ (λ _. short-whole t 8 _ (omega arith)) tt))))
+    (by-test (ShortRecord t) (eqb (byteAt t 0) 4) _ _ (λ _. short-whole t 8 _ (omega arith))
+    (by-test (ShortRecord t) (eqb (byteAt t 0) 5) _ _ (λ _. short-whole t 7 _ (omega arith)) tt)))))
 
 waits-record : (t : List ℕ) (p : Parsed) → OfRecord p More → ShortRecord t p → length t < 10
 waits-record t (Record e n) (inl h) s = let z : _≡_ {A = ℕ} 0 1 = cc in omega arith

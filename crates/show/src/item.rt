@@ -48,7 +48,8 @@ fn show_record(number: u64, bytes: &[u8]) -> Step
     let p = trace::parse(bytes);
     match p {
         Parsed::Record(e, _) => {
-            if write_line(text::record::record_line(number, e)) {
+            let kind = bytes[0];
+            if write_line(text::record::record_line(number, kind, e)) {
                 Step::Shown
             } else {
                 Step::NotWritten

@@ -26,6 +26,7 @@ use Rattle.text.specs.Digits.{ascii, decimal}
 use Rattle.text.specs.Line.{room}
 use Rattle.text.specs.Answer.{refusal, pin, eachPin, pins, request, fields, answerLine}
 use Rattle.text.specs.Register.{partOf, pair, own, serial, command, queue, register, registers}
+use Rattle.trace.specs.Trace.{longHoldKind}
 use Rattle.text.specs.Record.{privilege, place, hold, access, event, recordLine}
 use Rattle.text.specs.declared.register.Part.{Part}
 use Rattle.text.specs.declared.register.Part.the-variants.{Upper, Lower, Whole}
@@ -150,14 +151,14 @@ place-length supervisor width offset =
       registers-length width offset,
     ))
 
-hold-length : (pins : ℕ) (rxd : Bool) (clocks : ℕ) → length (hold pins rxd clocks) ≤ 33
+hold-length : (pins : ℕ) (rxd : Bool) (clocks : ℕ) → length (hold pins rxd clocks) ≤ 38
 unfolding hold
 hold-length pins rxd clocks =
     simp length-append
     (omega (
       arith,
       either rxd (ascii ", RXD 1, clocks ") (ascii ", RXD 0, clocks ") 16 (omega arith) (omega arith),
-      decimal-length 5 clocks,
+      decimal-length 10 clocks,
     ))
 
 access-length : (a : Access) → length (access a) ≤ 99
@@ -170,5 +171,12 @@ event-length Reset = omega arith
 event-length (Hold pins rxd clocks) = omega (arith, hold-length pins rxd clocks)
 event-length (events.Access a) = access-length a
 
-pub record-fits : (n : ℕ) (e : Event) → length (recordLine n e) ≤ room
-record-fits n e = simp length-append (omega (arith, decimal-length 20 n, event-length e))
+pub record-fits : (n kind : ℕ) (e : Event) → length (recordLine n kind e) ≤ room
+record-fits n kind e =
+    simp length-append
+    (omega (
+      arith,
+      decimal-length 20 n,
+      either (eqb kind longHoldKind) (ascii "long ") [] 5 (omega arith) (omega arith),
+      event-length e,
+    ))

@@ -2,11 +2,13 @@
 use mathlib.Core.Bool.{Bool, cond}
 use mathlib.Core.List.{List, [], _∷_, _++_}
 use Prim.Native.Nat.{ℕ}
+use lib.Dec.{eqb}
 use Rattle.qsm.specs.declared.event.Access.{Access}
 use Rattle.qsm.specs.declared.event.Access.the-variants.{Read, Write}
 use Rattle.qsm.specs.declared.event.Event.{Event}
 use Rattle.qsm.specs.declared.event.Event.the-variants.{Reset, Hold}
 use Rattle.qsm.specs.declared.event.Event.the-variants as events
+use Rattle.trace.specs.Trace.{longHoldKind}
 use Rattle.text.specs.Digits.{ascii, decimal, hexByte, hexWord, hexLong, number}
 use Rattle.text.specs.Register.{registers}
 
@@ -23,12 +25,15 @@ place supervisor width offset =
     ++ ascii " at "
     ++ hexWord offset
 
+abbrev pub long : Bool → List ℕ
+long is = cond is (ascii "long ") []
+
 unfoldable pub hold : ℕ → Bool → ℕ → List ℕ
 hold pins rxd clocks =
     ascii "hold pins "
     ++ hexByte pins
     ++ cond rxd (ascii ", RXD 1, clocks ") (ascii ", RXD 0, clocks ")
-    ++ decimal 5 clocks
+    ++ decimal 10 clocks
 
 abbrev pub access : Access → List ℕ
 access (Read supervisor width offset) = ascii "read" ++ place supervisor width offset
@@ -40,6 +45,6 @@ event Reset = ascii "reset"
 event (Hold pins rxd clocks) = hold pins rxd clocks
 event (events.Access a) = access a
 
--- The line of record n, with the byte that ends a line.
-abbrev pub recordLine : ℕ → Event → List ℕ
-recordLine n e = number n ++ event e ++ (10 ∷ [])
+-- The line of record n, of a kind and its event, with the byte that ends a line. A hold of 05 is a long hold.
+abbrev pub recordLine : ℕ → ℕ → Event → List ℕ
+recordLine n kind e = number n ++ long (eqb kind longHoldKind) ++ event e ++ (10 ∷ [])

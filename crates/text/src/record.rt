@@ -1,7 +1,7 @@
 // The line of a record: its number, its kind, and the fields of its event.
 ghost use mathlib.Core.Path.{_≡_};
 ghost use Rattle.text.specs.Line.{puts, Shows};
-ghost use Rattle.text.specs.Record.{privilege, place, hold, access, event, recordLine};
+ghost use Rattle.text.specs.Record.{privilege, place, long, hold, access, event, recordLine};
 use crate::line::Line;
 use qsm::event::Access;
 use qsm::event::Event;
@@ -29,14 +29,21 @@ impl Line {
             .hex_word(offset)
     }
 
-    fn hold(self, pins: u8, rxd: bool, clocks: u16) -> Line
+    // What a long hold's line has before a hold's.
+    fn long(self, is: bool) -> Line
+        ensures { λ r. ⌜ r ≡ puts self (long is) ⌝ }
+    {
+        if is { self.write(b"long ") } else { self }
+    }
+
+    fn hold(self, pins: u8, rxd: bool, clocks: u32) -> Line
         ensures { λ r. ⌜ r ≡ puts self (hold pins rxd clocks) ⌝ }
     {
         let start = self.write(b"hold pins ").hex_byte(pins);
         if rxd {
-            start.write(b", RXD 1, clocks ").decimal(5, clocks as u64)
+            start.write(b", RXD 1, clocks ").decimal(10, clocks as u64)
         } else {
-            start.write(b", RXD 0, clocks ").decimal(5, clocks as u64)
+            start.write(b", RXD 0, clocks ").decimal(10, clocks as u64)
         }
     }
 
@@ -65,10 +72,10 @@ impl Line {
     }
 }
 
-// The line of record n.
-// Ruled out: a line cut short; a read shown as a write; the fields of another record.
-pub fn record_line(n: u64, e: Event) -> Line
-    ensures { λ r. ⌜ Shows r (recordLine n e) ⌝ }
+// The line of record n, of a kind and its event.
+// Ruled out: a line cut short; a read shown as a write; the fields of another record; 02 and 05 shown alike.
+pub fn record_line(n: u64, kind: u8, e: Event) -> Line
+    ensures { λ r. ⌜ Shows r (recordLine n kind e) ⌝ }
 {
-    Line::empty().number(n).event(e).put(10)
+    Line::empty().number(n).long(kind == 5).event(e).put(10)
 }

@@ -14,7 +14,7 @@ use Rattle.qsm.specs.declared.state.Module.{Module}
 use Rattle.qsm.specs.declared.event.Event.{Event}
 use Rattle.qsm.specs.declared.event.Stepped.{Stepped}
 use Rattle.qsm.specs.Event.{step}
-use Rattle.trace.specs.Trace.{parsed, answerLength, answerBytes}
+use Rattle.trace.specs.Trace.{everyKind, parsed, answerLength, answerBytes}
 use Rattle.trace.specs.Play.{Outcome, stopNumber, refusalOf, stopped, answered, followed, turn, play, Plays}
 use Rattle.trace.specs.declared.Parsed.{Parsed}
 use Rattle.trace.specs.declared.Parsed.the-variants.{Record, Unknown, Cut}
@@ -120,7 +120,7 @@ module _ (t out₀ : List ℕ) (m₀ : Module) (out : List ℕ) (m : Module) (at
 
   -- At the end of the trace.
   pub at-end : (why : Stop) → length t ≤ at → stopNumber why ≡ 0 → Left why
-  at-end why le is = leaves why (play-none m (drop at t) room (simp length-drop (omega arith)) ∙ ap (stopped m) (sym is))
+  at-end why le is = leaves why (play-none everyKind m (drop at t) room (simp length-drop (omega arith)) ∙ ap (stopped m) (sym is))
 
   module _ (lt : at < length t) where
     some : 0 < length (drop at t)
@@ -130,7 +130,7 @@ module _ (t out₀ : List ℕ) (m₀ : Module) (out : List ℕ) (m : Module) (at
     pub at-refusal : (p : Parsed) (why : Stop) → p ≡ parsed (take (length t - at) (drop at t)) → OneOf (1 ∷ 2 ∷ []) (tagOf P.the-type p)
         → stopNumber why ≡ refusalOf p → Left why
     at-refusal p why is keys e =
-        leaves why (unroll m (drop at t) room some ∙ ap (turn play m (drop at t) room) (sym (is ∙ ap parsed (rest t at)))
+        leaves why (unroll everyKind m (drop at t) room some ∙ ap (turn play m (drop at t) room) (sym (is ∙ ap parsed (rest t at)))
         ∙ refused m (drop at t) room p keys ∙ ap (stopped m) (sym e))
 
     module _ (p : Parsed) (e : Event) (n : ℕ) (is : p ≡ parsed (take (length t - at) (drop at t))) (whole : p ≡ Record e n) where
@@ -143,7 +143,7 @@ module _ (t out₀ : List ℕ) (m₀ : Module) (out : List ℕ) (m : Module) (at
       -- Before a record whose answer has no room.
       pub at-full : (why : Stop) → room < answerLength → stopNumber why ≡ 7 → Left why
       at-full why full e =
-          leaves why (unroll m (drop at t) room some ∙ ap (turn play m (drop at t) room) here ∙ simp (lt-ltb room answerLength full) (ap (stopped m) (sym e)))
+          leaves why (unroll everyKind m (drop at t) room some ∙ ap (turn play m (drop at t) room) here ∙ simp (lt-ltb room answerLength full) (ap (stopped m) (sym e)))
 
       -- Past a record: its answer is written, and the trace goes on.
       pub goes-on : (s : Stepped) (part : List ℕ) → answerLength ≤ room → s ≡ step m e
@@ -157,7 +157,7 @@ module _ (t out₀ : List ℕ) (m₀ : Module) (out : List ℕ) (m : Module) (at
           let fits : put + answerLength ≤ length out = omega (arith, g .within) in
           let left : length out - put - answerLength ≡ length out - (put + answerLength) = omega arith in
           let next : play m (drop at t) room ≡ followed one (play (s .state) (drop n (drop at t)) (room - answerLength)) =
-          one-on m (drop at t) room e n here has ∙ simp is-step in
+          one-on everyKind m (drop at t) room e n here has ∙ simp is-step in
           subst (λ (l : List ℕ). Going t out₀ m₀ l (s .state) (at + n) (put + answerLength)) (sym (lent out put bs answerLength refl fits part wrote-is))
           (record {
             done = followed (g .done) one;

@@ -1,3 +1,4 @@
 pub mod Playing
 pub mod Laws
+pub mod LongHolds
 pub mod Going

@@ -12,8 +12,8 @@ use borrow.Author.Tests.{le-ltb, ltb-false, eq-eqb, ne-eqb, eqb-true, eqb-false}
 use Rattle.qsm.specs.declared.state.Module.{Module}
 use Rattle.qsm.specs.declared.event.Event.{Event}
 use Rattle.qsm.specs.Event.{step}
-use Rattle.trace.specs.Trace.{byteAt, whole, resetKind, holdKind, readKind, writeKind, byKind, parsed, answerLength}
-use Rattle.trace.specs.Play.{Outcome, stopped, answered, followed, turn, playFor, play}
+use Rattle.trace.specs.Trace.{byteAt, whole, resetKind, holdKind, readKind, writeKind, longHoldKind, byKind, everyKind, parsedBy, parsed, answerLength}
+use Rattle.trace.specs.Play.{Outcome, stopped, answered, followed, turn, playFor, playBy}
 use Rattle.trace.specs.declared.Parsed.{Parsed}
 use Rattle.trace.specs.declared.Parsed.the-variants.{Record, Unknown, Cut}
 
@@ -34,16 +34,27 @@ sized-whole t n e pos = sized-if t (ltb (length t) n) Cut (Record e n) (λ _. tt
 positive : (t : List ℕ) → eqb (length t) 0 ≡ false → 0 < length t
 positive t h = let no : length t ≡ 0 → ⊥ = eqb-false (length t) 0 h in omega (arith, no)
 
-pub sized : (t : List ℕ) → Sized t (parsed t)
-sized t =
+sized : (takes : ℕ → Bool) (t : List ℕ) → Sized t (parsedBy takes t)
+sized takes t =
     sized-if t (eqb (length t) 0) _ _ (λ _. tt) (λ some.
+    sized-if t (takes (byteAt t 0)) _ Unknown (λ _.
     sized-if t (eqb (byteAt t 0) resetKind) _ _ (λ _. (omega (arith, positive t some), omega (arith, positive t some))) (λ _.
     sized-if t (eqb (byteAt t 0) holdKind) _ _ (λ _. sized-whole t 5 _ (omega arith)) (λ _.
     sized-if t (eqb (byteAt t 0) readKind) _ _ (λ _. sized-whole t 4 _ (omega arith)) (λ _.
-    sized-if t (eqb (byteAt t 0) writeKind) _ _ (λ _. sized-whole t 8 _ (omega arith)) (λ _. tt)))))
+    sized-if t (eqb (byteAt t 0) writeKind) _ _ (λ _. sized-whole t 8 _ (omega arith)) (λ _.
+    sized-if t (eqb (byteAt t 0) longHoldKind) _ _ (λ _. sized-whole t 7 _ (omega arith)) (λ _. tt)))))) (λ _. tt))
 
 pub record-within : (t : List ℕ) {e : Event} {n : ℕ} → parsed t ≡ Record e n → (0 < n) × (n ≤ length t)
-record-within t is = subst (Sized t) is (sized t)
+record-within t is = subst (Sized t) is (sized everyKind t)
+
+-- What a reader of some kinds takes for a record, one of every kind takes for the same.
+pub taken : (takes : ℕ → Bool) (t : List ℕ) {e : Event} {n : ℕ} → parsedBy takes t ≡ Record e n → parsed t ≡ Record e n
+taken takes t {e} {n} = go (eqb (length t) 0) (takes (byteAt t 0)) (byKind (byteAt t 0) t)
+  where
+    go : (over is : Bool) (p : Parsed) → cond over Cut (cond is p Unknown) ≡ Record e n → cond over Cut p ≡ Record e n
+    go true is p h = h
+    go false true p h = h
+    go false false p h = cc
 
 -- ---- the count of records never runs out
 
@@ -55,42 +66,43 @@ turn-same f g m t room (Record e n) s h =
 turn-same f g m t room Unknown s h = refl
 turn-same f g m t room Cut s h = refl
 
-enough : (k j : ℕ) (m : Module) (t : List ℕ) (room : ℕ) → length t ≤ k → length t ≤ j → playFor k m t room ≡ playFor j m t room
-unfolding playFor
-enough zero zero m t room h i = refl
-enough zero (suc j) m t room h i = simp (eq-eqb (length t) 0 (omega arith))
-enough (suc k) zero m t room h i = simp (eq-eqb (length t) 0 (omega arith))
-enough (suc k) (suc j) m t room h i =
-    ap (cond (eqb (length t) 0) (stopped m 0))
-    (turn-same (playFor k) (playFor j) m t room (parsed t) (sized t)
-    (λ m′ n room′ pos. enough k j m′ (drop n t) room′ (simp length-drop (omega arith)) (simp length-drop (omega arith))))
-
-otherwise : {A : Type 0} (b : Bool) (x : A) {y : A} → b ≡ false → cond b x y ≡ y
+pub otherwise : {A : Type 0} (b : Bool) (x : A) {y : A} → b ≡ false → cond b x y ≡ y
 otherwise true x h = absurd (true≢false h)
 otherwise false x h = refl
 
-unrolled : (k : ℕ) (m : Module) (t : List ℕ) (room : ℕ) → 0 < length t → length t ≤ k → playFor k m t room ≡ turn play m t room (parsed t)
-unfolding playFor
-unrolled zero m t room pos h = absurd (omega arith)
-unrolled (suc k) m t room pos h =
-    otherwise (eqb (length t) 0) (stopped m 0) (ne-eqb (length t) 0 (λ z. omega arith))
-    ∙ (turn-same (playFor k) play m t room (parsed t) (sized t)
-    (λ m′ n room′ less. enough k (length (drop n t)) m′ (drop n t) room′ (simp length-drop (omega arith)) (omega arith)))
+module _ (takes : ℕ → Bool) where
+  enough : (k j : ℕ) (m : Module) (t : List ℕ) (room : ℕ) → length t ≤ k → length t ≤ j → playFor takes k m t room ≡ playFor takes j m t room
+  unfolding playFor
+  enough zero zero m t room h i = refl
+  enough zero (suc j) m t room h i = simp (eq-eqb (length t) 0 (omega arith))
+  enough (suc k) zero m t room h i = simp (eq-eqb (length t) 0 (omega arith))
+  enough (suc k) (suc j) m t room h i =
+      ap (cond (eqb (length t) 0) (stopped m 0))
+      (turn-same (playFor takes k) (playFor takes j) m t room (parsedBy takes t) (sized takes t)
+      (λ m′ n room′ pos. enough k j m′ (drop n t) room′ (simp length-drop (omega arith)) (simp length-drop (omega arith))))
 
--- One record on.
-pub unroll : (m : Module) (t : List ℕ) (room : ℕ) → 0 < length t → play m t room ≡ turn play m t room (parsed t)
-unroll m t room pos = unrolled (length t) m t room pos (omega arith)
+  unrolled : (k : ℕ) (m : Module) (t : List ℕ) (room : ℕ) → 0 < length t → length t ≤ k → playFor takes k m t room ≡ turn (playBy takes) m t room (parsedBy takes t)
+  unfolding playFor
+  unrolled zero m t room pos h = absurd (omega arith)
+  unrolled (suc k) m t room pos h =
+      otherwise (eqb (length t) 0) (stopped m 0) (ne-eqb (length t) 0 (λ z. omega arith))
+      ∙ (turn-same (playFor takes k) (playBy takes) m t room (parsedBy takes t) (sized takes t)
+      (λ m′ n room′ less. enough k (length (drop n t)) m′ (drop n t) room′ (simp length-drop (omega arith)) (omega arith)))
 
-pub play-none : (m : Module) (t : List ℕ) (room : ℕ) → length t ≡ 0 → play m t room ≡ stopped m 0
-unfolding playFor
-play-none m t room none = rw none
+  -- One record on.
+  pub unroll : (m : Module) (t : List ℕ) (room : ℕ) → 0 < length t → playBy takes m t room ≡ turn (playBy takes) m t room (parsedBy takes t)
+  unroll m t room pos = unrolled (length t) m t room pos (omega arith)
 
--- A record and what follows it, one record on.
-pub one-on : (m : Module) (t : List ℕ) (room : ℕ) (e : Event) (n : ℕ) → parsed t ≡ Record e n → answerLength ≤ room
-    → play m t room ≡ followed (answered (step m e) (take n t)) (play (step m e .state) (drop n t) (room - answerLength))
-one-on m t room e n is fits =
-    let w = record-within t is in
-    unroll m t room (omega (arith, w)) ∙ ap (turn play m t room) is ∙ simp (le-ltb room answerLength fits)
+  pub play-none : (m : Module) (t : List ℕ) (room : ℕ) → length t ≡ 0 → playBy takes m t room ≡ stopped m 0
+  unfolding playFor
+  play-none m t room none = rw none
+
+  -- A record and what follows it, one record on.
+  pub one-on : (m : Module) (t : List ℕ) (room : ℕ) (e : Event) (n : ℕ) → parsedBy takes t ≡ Record e n → answerLength ≤ room
+      → playBy takes m t room ≡ followed (answered (step m e) (take n t)) (playBy takes (step m e .state) (drop n t) (room - answerLength))
+  one-on m t room e n is fits =
+      let w = record-within t (taken takes t is) in
+      unroll m t room (omega (arith, w)) ∙ ap (turn (playBy takes) m t room) is ∙ simp (le-ltb room answerLength fits)
 
 pub followed-assoc : (o p q : Outcome) → followed (followed o p) q ≡ followed o (followed p q)
 followed-assoc o p q = simp append-assoc
@@ -127,7 +139,10 @@ module _ (s t : List ℕ) where
       (told-if (eqb kind writeKind) _ _ _ _
       (told-unless (ltb (length t) 8) 8 _ _
       (λ a. rw (a .0 1 (omega arith), a .0 2 (omega arith), a .0 3 (omega arith), a .0 4 (omega arith), a .0 5 (omega arith), a .0 6 (omega arith), a .0 7 (omega arith))))
-      tt)))
+      (told-if (eqb kind longHoldKind) _ _ _ _
+      (told-unless (ltb (length t) 7) 7 _ _
+      (λ a. rw (a .0 1 (omega arith), a .0 2 (omega arith), a .0 3 (omega arith), a .0 4 (omega arith), a .0 5 (omega arith), a .0 6 (omega arith))))
+      tt))))
 
   pub kind-told : {e : Event} {n : ℕ} → parsed t ≡ Record e n → byKind (byteAt t 0) t ≡ Record e n
   kind-told {e} {n} is =
@@ -156,19 +171,19 @@ record-alone t {e} {n} is =
 -- ---- induction over what is played
 
 -- What holds of a trace that stops at once, and of one record and what follows it, holds of every trace.
-module _ (P : Module → List ℕ → ℕ → Outcome → Type 0)
+module _ (takes : ℕ → Bool) (P : Module → List ℕ → ℕ → Outcome → Type 0)
     (stops : (m : Module) (t : List ℕ) (room why : ℕ) → (why ≡ 0 → length t ≡ 0) → P m t room (stopped m why))
-    (goes : (m : Module) (t : List ℕ) (room : ℕ) (e : Event) (n : ℕ) (o : Outcome) → parsed t ≡ Record e n → 0 < n → n ≤ length t → answerLength ≤ room
+    (goes : (m : Module) (t : List ℕ) (room : ℕ) (e : Event) (n : ℕ) (o : Outcome) → parsedBy takes t ≡ Record e n → 0 < n → n ≤ length t → answerLength ≤ room
     → P (step m e .state) (drop n t) (room - answerLength) o → P m t room (followed (answered (step m e) (take n t)) o)) where
   by-room : (b : Bool) (m : Module) (t : List ℕ) (room : ℕ) (o : Outcome) → b ≡ ltb room answerLength → (answerLength ≤ room → P m t room o)
       → P m t room (cond b (stopped m 7) o)
   by-room true m t room o is h = stops m t room _ (λ z. absurd (omega arith))
   by-room false m t room o is h = h (ltb-false _ _ (sym is))
 
-  by-record : (f : Module → List ℕ → ℕ → Outcome) (m : Module) (t : List ℕ) (room : ℕ) (p : Parsed) → parsed t ≡ p
+  by-record : (f : Module → List ℕ → ℕ → Outcome) (m : Module) (t : List ℕ) (room : ℕ) (p : Parsed) → parsedBy takes t ≡ p
       → ((m′ : Module) (n room′ : ℕ) → 0 < n → P m′ (drop n t) room′ (f m′ (drop n t) room′)) → P m t room (turn f m t room p)
   by-record f m t room (Record e n) is h =
-      let w = record-within t is in
+      let w = record-within t (taken takes t is) in
       by-room (ltb room answerLength) m t room _ refl (λ fits. goes m t room e n _ is (w .0) (w .1) fits (h (step m e .state) n (room - answerLength) (w .0)))
   by-record f m t room Unknown is h = stops m t room _ (λ z. absurd (omega arith))
   by-record f m t room Cut is h = stops m t room _ (λ z. absurd (omega arith))
@@ -177,12 +192,12 @@ module _ (P : Module → List ℕ → ℕ → Outcome → Type 0)
   by-end true m t room o is h = stops m t room 0 (λ z. eqb-true _ _ (sym is))
   by-end false m t room o is h = h
 
-  by-count : (k : ℕ) (m : Module) (t : List ℕ) (room : ℕ) → length t ≤ k → P m t room (playFor k m t room)
+  by-count : (k : ℕ) (m : Module) (t : List ℕ) (room : ℕ) → length t ≤ k → P m t room (playFor takes k m t room)
   unfolding playFor
   by-count zero m t room le = stops m t room 0 (λ z. omega arith)
   by-count (suc k) m t room le =
       by-end (eqb (length t) 0) m t room _ refl
-      (by-record (playFor k) m t room (parsed t) refl (λ m′ n room′ pos. by-count k m′ (drop n t) room′ (simp length-drop (omega arith))))
+      (by-record (playFor takes k) m t room (parsedBy takes t) refl (λ m′ n room′ pos. by-count k m′ (drop n t) room′ (simp length-drop (omega arith))))
 
-  pub played : (m : Module) (t : List ℕ) (room : ℕ) → P m t room (play m t room)
+  pub played : (m : Module) (t : List ℕ) (room : ℕ) → P m t room (playBy takes m t room)
   played m t room = by-count (length t) m t room (omega arith)

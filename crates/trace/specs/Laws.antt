@@ -11,19 +11,21 @@ use Rattle.trace.specs.Play.{Outcome, stopped, followed, play}
 
 -- What a trace begins with, in the words of refusals 5 and 6. 5: unknown record kind.
 abbrev pub unknown : List ℕ → Bool
-unknown t = not (eqb (byteAt t 0) 1 || eqb (byteAt t 0) 2 || eqb (byteAt t 0) 3 || eqb (byteAt t 0) 4)
+unknown t =
+    not (eqb (byteAt t 0) 1 || eqb (byteAt t 0) 2 || eqb (byteAt t 0) 3 || eqb (byteAt t 0) 4 || eqb (byteAt t 0) 5)
 
--- The kind byte and the body: 01 reset, 0; 02 hold, 4; 03 read, 3; 04 write, 7.
+-- The kind byte and the body: 01 reset, 0; 02 hold, 4; 03 read, 3; 04 write, 7; 05 long hold, 6.
 abbrev pub recordLength : List ℕ → ℕ
 recordLength t =
-    cond (eqb (byteAt t 0) 1) 1 (cond (eqb (byteAt t 0) 2) 5 (cond (eqb (byteAt t 0) 3) 4 8))
+    cond (eqb (byteAt t 0) 1) 1
+    (cond (eqb (byteAt t 0) 2) 5 (cond (eqb (byteAt t 0) 3) 4 (cond (eqb (byteAt t 0) 4) 8 7)))
 
 -- 6: record cut by the end of the trace.
 abbrev pub cut : List ℕ → Bool
 cut t = ltb (length t) (recordLength t)
 
--- Each of a list of records.
-abbrev pub Each : (List ℕ → Type 0) → List (List ℕ) → Type 0
+-- Each of a list.
+abbrev pub Each : {A : Type 0} → (A → Type 0) → List A → Type 0
 Each p [] = Unit {0}
 Each p (r ∷ rs) = p r × Each p rs
 
@@ -56,14 +58,14 @@ abbrev pub ReadToTheEnd : Type 0
 ReadToTheEnd =
     (m : Module) (t : List ℕ) (room : ℕ) → play m t room .stop ≡ 0 → flatten (play m t room .records) ≡ t
 
--- The same records and answers, with no stop.
-abbrev pub unstopped : Outcome → Outcome
-unstopped o = record { state = o .state; records = o .records; answers = o .answers; stop = 0 }
+-- The same records and answers, with another stop or, with 0, none.
+abbrev pub withStop : ℕ → Outcome → Outcome
+withStop why o = record { state = o .state; records = o .records; answers = o .answers; stop = why }
 
 -- After a stop, earlier answers and their state stand: they are what the records answered give without the rest.
 abbrev pub EarlierStand : Type 0
 EarlierStand =
-    (m : Module) (t : List ℕ) (room : ℕ) → play m (flatten (play m t room .records)) room ≡ unstopped (play m t room)
+    (m : Module) (t : List ℕ) (room : ℕ) → play m (flatten (play m t room .records)) room ≡ withStop 0 (play m t room)
 
 -- A trace that goes on, into any room, is what was played of its beginning, and then what that left with the rest.
 abbrev pub Resumes : Type 0

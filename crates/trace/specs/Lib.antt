@@ -1,4 +1,5 @@
 pub mod Trace
 pub mod Play
 pub mod Laws
+pub mod LongHolds
 pub mod Shown

@@ -1,6 +1,6 @@
 -- Document 01, Trace and refusals 5 to 7: what playing a trace into so much room answers and leaves.
 use mathlib.Core.Path.{_≡_}
-use mathlib.Core.Bool.{cond}
+use mathlib.Core.Bool.{Bool, cond}
 use mathlib.Core.List.{List, [], _∷_, _++_, flatten}
 use Prim.Native.Nat.{ℕ, zero, suc, _-_, _*_}
 use lib.Dec.{eqb, ltb}
@@ -8,7 +8,7 @@ use lib.ListN.{length, take, drop}
 use Rattle.qsm.specs.Event.{step}
 use Rattle.qsm.specs.declared.state.Module.{Module}
 use Rattle.qsm.specs.declared.event.Stepped.{Stepped}
-use Rattle.trace.specs.Trace.{parsed, answerLength, answerBytes}
+use Rattle.trace.specs.Trace.{everyKind, parsedBy, answerLength, answerBytes}
 use Rattle.trace.specs.declared.Parsed.{Parsed}
 use Rattle.trace.specs.declared.Parsed.the-variants.{Record, Unknown, Cut}
 use Rattle.trace.specs.declared.Stop.{Stop}
@@ -61,14 +61,18 @@ turn on m t room (Record e n) =
 turn on m t room Unknown = stopped m 5
 turn on m t room Cut = stopped m 6
 
--- At most so many records.
-unfoldable pub playFor : ℕ → Module → List ℕ → ℕ → Outcome
-playFor zero m t room = stopped m 0
-playFor (suc k) m t room = cond (eqb (length t) 0) (stopped m 0) (turn (playFor k) m t room (parsed t))
+-- At most so many records, to a reader that takes such kinds.
+unfoldable pub playFor : (ℕ → Bool) → ℕ → Module → List ℕ → ℕ → Outcome
+playFor takes zero m t room = stopped m 0
+playFor takes (suc k) m t room =
+    cond (eqb (length t) 0) (stopped m 0) (turn (playFor takes k) m t room (parsedBy takes t))
 
 -- The trace t into so much room. A record has at least one byte, so there are no more records than bytes.
+abbrev pub playBy : (ℕ → Bool) → Module → List ℕ → ℕ → Outcome
+playBy takes m t room = playFor takes (length t) m t room
+
 abbrev pub play : Module → List ℕ → ℕ → Outcome
-play m t room = playFor (length t) m t room
+play m t room = playBy everyKind m t room
 
 -- What `play` answers, and what it leaves of a lent output: the answers, and past them what stood there.
 pub record Plays (o : Outcome) (lent : List ℕ) (r : Played) (left : List ℕ) : Type 0 where

@@ -1,5 +1,6 @@
--- Document 01, Trace: a kind byte, then a body of fixed length; each record gives ten bytes. Fields are big-endian.
-use mathlib.Core.Bool.{Bool, not, cond}
+-- Document 01, Trace, with kind 05 of document 02, L5: a kind byte, then a body of fixed length; each record gives ten bytes. Fields are
+-- big-endian.
+use mathlib.Core.Bool.{Bool, true, not, cond}
 use mathlib.Core.List.{List, [], _∷_}
 use Prim.Native.Nat.{ℕ, _+_, _*_, _/_, _%_}
 use lib.Dec.{eqb, ltb, leb}
@@ -34,6 +35,10 @@ whole t n e = cond (ltb (length t) n) Cut (Record e n)
 abbrev pub holdRecord : List ℕ → Parsed
 holdRecord t = whole t 5 (Hold (byteAt t 1) (not (eqb (byteAt t 2) 0)) (wordAt t 3))
 
+-- 05 long hold: pins, RXD likewise, clocks (4).
+abbrev pub longHoldRecord : List ℕ → Parsed
+longHoldRecord t = whole t 7 (Hold (byteAt t 1) (not (eqb (byteAt t 2) 0)) (longAt t 3))
+
 -- A width with bit 7 for supervisor.
 abbrev pub supervisorOf : ℕ → Bool
 supervisorOf b = leb 128 b
@@ -52,7 +57,7 @@ writeRecord t =
     whole t 8
     (event.Access (Write (supervisorOf (byteAt t 1)) (widthOf (byteAt t 1)) (wordAt t 2) (longAt t 4)))
 
--- The kinds: 01 reset, 02 hold, 03 read, 04 write.
+-- The kinds: 01 reset, 02 hold, 03 read, 04 write, 05 long hold.
 abbrev pub resetKind : ℕ
 resetKind = 0x01
 
@@ -65,6 +70,9 @@ readKind = 0x03
 abbrev pub writeKind : ℕ
 writeKind = 0x04
 
+abbrev pub longHoldKind : ℕ
+longHoldKind = 0x05
+
 -- A record by its kind; one of an unknown kind, with or without a body, is none.
 abbrev pub byKind : ℕ → List ℕ → Parsed
 byKind kind t =
@@ -72,11 +80,22 @@ byKind kind t =
     (cond (eqb kind holdKind) (holdRecord t)
     (cond (eqb kind readKind) (readRecord t)
     (cond (eqb kind writeKind) (writeRecord t)
-    Unknown)))
+    (cond (eqb kind longHoldKind) (longHoldRecord t)
+    Unknown))))
 
--- The record at the start of t: its event and its length.
+-- The kinds that a reader takes: every kind there is, or those of document 01, as the reader before L5.
+abbrev pub everyKind : ℕ → Bool
+everyKind kind = true
+
+abbrev pub earlier : ℕ → Bool
+earlier kind = not (eqb kind longHoldKind)
+
+-- The record at the start of t, to a reader of such kinds: its event and its length.
+abbrev pub parsedBy : (ℕ → Bool) → List ℕ → Parsed
+parsedBy takes t = cond (eqb (length t) 0) Cut (cond (takes (byteAt t 0)) (byKind (byteAt t 0) t) Unknown)
+
 abbrev pub parsed : List ℕ → Parsed
-parsed t = cond (eqb (length t) 0) Cut (byKind (byteAt t 0) t)
+parsed t = parsedBy everyKind t
 
 abbrev pub answerLength : ℕ
 answerLength = 10

@@ -3,7 +3,7 @@ ghost use mathlib.Core.Path.{_≡_};
 ghost use mathlib.Core.List.{_++_};
 ghost use Prim.Native.Nat.{_≤_};
 ghost use lib.ListN.{length, drop};
-ghost use Rattle.trace.specs.Trace.{long, supervisorOf, widthOf, holdRecord, readRecord, writeRecord, parsed, answerLength, answerBytes};
+ghost use Rattle.trace.specs.Trace.{long, supervisorOf, widthOf, holdRecord, longHoldRecord, readRecord, writeRecord, parsed, answerLength, answerBytes};
 ghost use Rattle.trace.specs.Play.{stopNumber, refusalOf, play, Plays};
 
 mod claims;
@@ -45,6 +45,8 @@ const READ: u8 = 0x03;
 
 const WRITE: u8 = 0x04;
 
+const LONG_HOLD: u8 = 0x05;
+
 // The bytes of an answer.
 pub const ANSWER_LENGTH: usize = 10;
 
@@ -73,7 +75,17 @@ fn hold(rest: &[u8]) -> Parsed
         return Parsed::Cut;
     }
     let clocks = steps::word(rest[3], rest[4]);
-    Parsed::Record(Event::Hold(rest[1], rest[2] != 0, clocks), 5)
+    Parsed::Record(Event::Hold(rest[1], rest[2] != 0, clocks as u32), 5)
+}
+
+fn long_hold(rest: &[u8]) -> Parsed
+    ensures { λ r. ⌜ r ≡ longHoldRecord (now (rest .entry)) ⌝ }
+{
+    if rest.len() < 7 {
+        return Parsed::Cut;
+    }
+    let clocks = long(steps::word(rest[3], rest[4]), steps::word(rest[5], rest[6]));
+    Parsed::Record(Event::Hold(rest[1], rest[2] != 0, clocks), 7)
 }
 
 fn read(rest: &[u8]) -> Parsed
@@ -102,7 +114,7 @@ fn write(rest: &[u8]) -> Parsed
 }
 
 // The record at the start of a rest of a trace.
-// Ruled out: a cut record of an unknown kind that is 6; a low byte lost; a user taken for a supervisor.
+// Ruled out: a cut record of an unknown kind that is 6; a low byte lost; a user taken for a supervisor; a long hold of its low word.
 pub fn parse(rest: &[u8]) -> Parsed
     ensures { λ r. ⌜ r ≡ parsed (now (rest .entry)) ⌝ }
 {
@@ -121,6 +133,9 @@ pub fn parse(rest: &[u8]) -> Parsed
     }
     if kind == WRITE {
         return write(rest);
+    }
+    if kind == LONG_HOLD {
+        return long_hold(rest);
     }
     Parsed::Unknown
 }
