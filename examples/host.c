@@ -70,7 +70,7 @@ static void keep(struct card *c, bool level, uint64_t until)
 {
     while (c->now < until) {
         uint64_t stop = c->next_poll < until ? c->next_poll : until;
-        value(qsm_hold(&c->qsm, 0xFF, level, (uint16_t)(stop - c->now)));
+        value(qsm_hold(&c->qsm, 0xFF, level, (uint32_t)(stop - c->now)));
         c->now = stop;
         if (c->now == c->next_poll) {
             poll_once(c);

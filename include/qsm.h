@@ -210,10 +210,10 @@ struct qsm qsm_new(void);
 struct qsm_answer qsm_reset(struct qsm *m);
 
 /*
- * Time passes: RXD has its level and the input pins have theirs for 0 to 65,535 system clocks. `pins` counts only for pins that are inputs,
- * and stays, for reads of PORTQS, until the next hold or reset.
+ * Time passes: RXD has its level and the input pins have theirs for 0 to 4,294,967,295 system clocks. `pins` counts only for pins that are
+ * inputs, and stays, for reads of PORTQS, until the next hold or reset.
  */
-struct qsm_answer qsm_hold(struct qsm *m, uint8_t pins, bool rxd, uint16_t clocks);
+struct qsm_answer qsm_hold(struct qsm *m, uint8_t pins, bool rxd, uint32_t clocks);
 
 /*
  * A bus access of 1, 2 or 4 bytes, as supervisor or as user, which takes no clock. A byte or word is the low end of the value. A long is

@@ -28,9 +28,14 @@ int main()
     struct qsm saved = card;
     expect(qsm_hold(&card, 0xFF, true, 1000).levels == QSM_TXD, "TXD is one in the preamble");
     expect(card.sci.transmitter.left != saved.sci.transmitter.left, "the preamble has begun, and not in the copy");
+    struct qsm parts = saved;
+    qsm_hold(&card, 0xFF, true, 65539);
+    qsm_hold(&parts, 0xFF, true, 66536);
+    qsm_hold(&parts, 0xFF, true, 3);
+    expect(card.sci.prescaler == 3 && parts.sci.prescaler == 3, "holds of the same total come to the same clock");
     expect(qsm_reset(&card).mask == 0, "a reset lets go of TXD");
 
-    const uint8_t trace[] = {0x01, 0x03, 0x82, 0x00, 0x0C, 0x03};
+    const uint8_t trace[] = {0x01, 0x03, 0x82, 0x00, 0x0C, 0x05};
     const uint8_t answers[] = {0x10, 0, 0, 0, 0, 0, 0, 0, 0, 0, 0x10, 0, 0, 0, 0x01, 0x80, 0, 0, 0, 0, 0xEE};
     uint8_t log[sizeof answers];
     std::memset(log, 0xEE, sizeof log);

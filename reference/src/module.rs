@@ -86,7 +86,7 @@ impl Module {
     }
 
     /// Holds pin levels and RXD (nonzero is one) for a number of clocks.
-    pub fn hold(&mut self, pins: u8, rxd: u8, clocks: u16) -> Answer {
+    pub fn hold(&mut self, pins: u8, rxd: u8, clocks: u32) -> Answer {
         self.input = pins;
         let inputs = self.queue_inputs();
         for _ in 0..clocks {

@@ -56,6 +56,7 @@ fn record_length(trace: &[u8]) -> Option<usize> {
         0x02 => Some(5),
         0x03 => Some(4),
         0x04 => Some(8),
+        0x05 => Some(7),
         _ => None,
     }
 }
@@ -63,7 +64,8 @@ fn record_length(trace: &[u8]) -> Option<usize> {
 fn event(module: &mut Module, record: &[u8]) -> Option<Answer> {
     let answer = match *record {
         [0x01] => module.reset(),
-        [0x02, pins, rxd, a, b] => module.hold(pins, rxd, u16::from_be_bytes([a, b])),
+        [0x02, pins, rxd, a, b] => module.hold(pins, rxd, u32::from_be_bytes([0, 0, a, b])),
+        [0x05, pins, rxd, a, b, c, d] => module.hold(pins, rxd, u32::from_be_bytes([a, b, c, d])),
         [0x03, access, a, b] => {
             let (supervisor, width) = privilege_and_width(access);
             module.read(supervisor, width, u16::from_be_bytes([a, b]))

@@ -17,14 +17,14 @@ const BIT: u32 = 128;
 #[derive(Clone, Copy)]
 enum Call {
     Read,
-    Hold(u16),
+    Hold(u32),
 }
 
 /// The calls of both modules, with a number of each answer. The whole answer is made: `black_box` keeps it.
 trait Module: Clone {
     fn read(&mut self, offset: u16) -> u32;
     fn write(&mut self, offset: u16, value: u32) -> u32;
-    fn hold(&mut self, rxd: bool, clocks: u16) -> u32;
+    fn hold(&mut self, rxd: bool, clocks: u32) -> u32;
 }
 
 macro_rules! module {
@@ -36,7 +36,7 @@ macro_rules! module {
             fn write(&mut self, offset: u16, value: u32) -> u32 {
                 self.write(true, 2, offset, value).refusal.into()
             }
-            fn hold(&mut self, rxd: bool, clocks: u16) -> u32 {
+            fn hold(&mut self, rxd: bool, clocks: u32) -> u32 {
                 let answer = self.hold(PINS, <$level>::from(rxd), clocks);
                 black_box(answer).levels.into()
             }
@@ -72,7 +72,7 @@ fn time<M: Module>(from: &M, call: Call, busy: bool, count: u32) -> (f64, u32) {
         let given = match call {
             Call::Read => module.read(black_box(SCSR)),
             Call::Hold(clocks) => {
-                let level = !busy || (i * u32::from(clocks) / BIT).is_multiple_of(2);
+                let level = !busy || (i * clocks / BIT).is_multiple_of(2);
                 module.hold(black_box(level), black_box(clocks))
             }
         };

@@ -6,7 +6,7 @@ pub enum Event {
     Hold {
         pins: u8,
         rxd: bool,
-        clocks: u16,
+        clocks: u32,
     },
     Read {
         supervisor: bool,
@@ -41,14 +41,18 @@ pub fn write(width: u8, offset: u16, value: u32) -> Event {
 }
 
 impl Event {
-    /// The record: kind and body. A width has seven bits there.
+    /// The record: kind and body. A width has seven bits there. Holds are of kind 02 or 05, those that fit both by turns.
     pub fn record(&self) -> Vec<u8> {
         let access = |supervisor: bool, width: u8| u8::from(supervisor) << 7 | width & 0x7F;
         match *self {
             Self::Reset => vec![0x01],
             Self::Hold { pins, rxd, clocks } => {
-                let [a, b] = clocks.to_be_bytes();
-                vec![0x02, pins, u8::from(rxd), a, b]
+                let [a, b, c, d] = clocks.to_be_bytes();
+                if clocks > 0xFFFF || clocks % 3 == 1 {
+                    vec![0x05, pins, u8::from(rxd), a, b, c, d]
+                } else {
+                    vec![0x02, pins, u8::from(rxd), c, d]
+                }
             }
             Self::Read {
                 supervisor,

@@ -62,12 +62,11 @@ impl Line {
         } else {
             self.left
         };
-        let clocks = clocks.min(0xFFFF);
         self.left -= clocks;
         Event::Hold {
             pins,
             rxd: level != noisy,
-            clocks: clocks as u16,
+            clocks,
         }
     }
 }

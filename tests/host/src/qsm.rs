@@ -149,7 +149,7 @@ c_struct!(Compared {
 extern "C" {
     fn qsm_new() -> Module;
     fn qsm_reset(m: *mut Module) -> Answer;
-    fn qsm_hold(m: *mut Module, pins: u8, rxd: bool, clocks: u16) -> Answer;
+    fn qsm_hold(m: *mut Module, pins: u8, rxd: bool, clocks: u32) -> Answer;
     fn qsm_read(m: *mut Module, supervisor: bool, width: u8, offset: u16) -> Answer;
     fn qsm_write(m: *mut Module, supervisor: bool, width: u8, offset: u16, value: u32) -> Answer;
     fn qsm_noise(m: *const Module) -> u8;
@@ -183,7 +183,7 @@ impl Module {
         unsafe { qsm_reset(self) }
     }
 
-    pub fn hold(&mut self, pins: u8, rxd: bool, clocks: u16) -> Answer {
+    pub fn hold(&mut self, pins: u8, rxd: bool, clocks: u32) -> Answer {
         // SAFETY: as said above.
         unsafe { qsm_hold(self, pins, rxd, clocks) }
     }

@@ -94,6 +94,7 @@ fn hold(random: &mut Random, pins: &mut u8) -> Event {
         *pins |= PCS0;
     }
     let clocks = match random.below(40) {
+        0 if random.percent(1) => random.below(0x4_0000),
         0 => random.below(0x2100),
         1..=9 => random.below(4),
         10..=19 => random.below(20),
@@ -102,6 +103,6 @@ fn hold(random: &mut Random, pins: &mut u8) -> Event {
     Event::Hold {
         pins: *pins,
         rxd: random.percent(50),
-        clocks: clocks as u16,
+        clocks,
     }
 }

@@ -55,7 +55,7 @@ pub fn next(random: &mut Random, line: &mut Line, pins: u8) -> Event {
         39 if random.percent(20) => Event::Hold {
             pins,
             rxd: random.percent(80),
-            clocks: random.below(0x10000) as u16,
+            clocks: random.below(0x1_1000),
         },
         _ => line.hold(random, pins),
     }

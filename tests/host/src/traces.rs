@@ -61,7 +61,7 @@ pub fn check(
     count(play(start, &trace, tight)?.0);
 
     let mut damaged = trace.clone();
-    damaged[before] = random.pick(&[0x00, 0x05, 0x10, 0x81, 0xFF]);
+    damaged[before] = random.pick(&[0x00, 0x06, 0x10, 0x81, 0xFF]);
     count(play(start, &damaged, random.pick(&[room, tight]))?.0);
     Ok(())
 }

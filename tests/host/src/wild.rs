@@ -12,7 +12,7 @@ pub fn next(random: &mut Random) -> Event {
         4..=15 => Event::Hold {
             pins: random.below(0x100) as u8,
             rxd: random.percent(50),
-            clocks: random.below(64) as u16,
+            clocks: random.below(64),
         },
         _ => access(random),
     }
