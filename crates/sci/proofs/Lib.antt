@@ -56,3 +56,4 @@ pub mod Figure
 pub mod Figures
 pub mod Moves
 pub mod Rest
+pub mod ParityTable

@@ -8,6 +8,7 @@ use borrow.Author.Tests.{ne-eqb, eqb-false, leb-true, not-true}
 use Rattle.steps.specs.Bits.{bit}
 use Rattle.sci.specs.Control.{M, TIE, TCIE, RIE, ILIE, RE, bitsOf}
 use Rattle.sci.specs.Framer.{begins, abandons, ends, searched, atRt, startBit, dataBit, stopBit, inBit, nextRt, fixed, adjusts, framed}
+use Rattle.sci.specs.Flags.{OR, IDLE, RAF}
 use Rattle.sci.specs.Status.{raiseIf, fallIf}
 use Rattle.sci.specs.Receiver.{three, reaches, outcome, entered, statusAfter, receiverAfter, received}
 use Rattle.sci.specs.Transmitter.{beginsPreamble, beginsFrame, ends as ended, sent}
@@ -15,6 +16,8 @@ use Rattle.sci.specs.Serial.{afterReceived, heard, afterSent, sampled, a
 use Rattle.sci.specs.Plain.{busy, rests, rested, plain, passed, listened, turns, shifted}
 use Rattle.sci.specs.declared.status.Status.{Status}
 use Rattle.sci.specs.declared.framer.Framer.{Framer}
+use Rattle.sci.specs.declared.framer.Frame.{Frame}
+use Rattle.sci.specs.declared.receiver.Outcome.{Outcome}
 use Rattle.sci.specs.declared.receiver.Receiver.{Receiver}
 use Rattle.sci.specs.declared.receiver.Received.{Received}
 use Rattle.sci.specs.declared.transmitter.Transmitter.{Transmitter}
@@ -151,6 +154,27 @@ passes r s sccr1 x h =
     let below : (x && reaches r (bitsOf (M sccr1))) ≡ false = not-true _ (second (rests (r .framer) (three r) x) _ h) in
     let none : Resting (r .framer) (three r) x = resting (r .framer) (three r) x rest in
     rw (moves (bitsOf (M sccr1)) (r .framer) (three r) x rest, none .begun, none .abandoned, none .ended) (simp and-true (rw (below, and-true)))
+
+-- The parity of a frame that is not taken makes no difference.
+pub if-taken : (s : Status) (o : Outcome) (f : Frame) (pe bad idles : Bool) →
+    statusAfter s o f (o .taken && pe && bad) idles ≡ statusAfter s o f (pe && bad) idles
+unfolding statusAfter entered
+if-taken s o f pe bad idles = go (o .taken)
+  where
+    go : (taken : Bool) →
+        raiseIf idles
+        (fallIf (o .abandoned || o .reached)
+        (raiseIf (o .begun) (entered (taken && not (o .lost)) (raiseIf (o .lost) s OR) f (taken && pe && bad)) RAF)
+        RAF)
+        IDLE
+        ≡
+        raiseIf idles
+        (fallIf (o .abandoned || o .reached)
+        (raiseIf (o .begun) (entered (taken && not (o .lost)) (raiseIf (o .lost) s OR) f (pe && bad)) RAF)
+        RAF)
+        IDLE
+    go true = refl
+    go false = refl
 
 pub shifts : (t : Transmitter) (s : Status) (sccr1 : ℕ) → turns t s sccr1 ≡ false →
     _≡_ {A = Sent} (record { transmitter = shifted t; status = s }) (sent t s sccr1)

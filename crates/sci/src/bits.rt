@@ -1,5 +1,6 @@
-// The leaves on samples and words: the vote over three samples, and parity, which sending and receiving share.
+// The leaves on samples and words: the vote over three samples, and parity from a table, which sending and receiving share.
 ghost use mathlib.Core.Path.{_≡_};
+ghost use Prim.Native.Nat.{_%_};
 ghost use Rattle.steps.specs.Bits.{digit};
 ghost use Rattle.sci.specs.Bits.{vote, odd, parityBit};
 
@@ -29,12 +30,34 @@ pub fn digit(b: bool) -> u8
     if b { 1 } else { 0 }
 }
 
-// Whether a word has an odd number of ones.
+// Parity of each nine-bit word, in their order: 1 for an odd number of ones.
+const PARITY: [u8; 512] = *b"\
+    0110100110010110100101100110100110010110011010010110100110010110\
+    1001011001101001011010011001011001101001100101101001011001101001\
+    1001011001101001011010011001011001101001100101101001011001101001\
+    0110100110010110100101100110100110010110011010010110100110010110\
+    1001011001101001011010011001011001101001100101101001011001101001\
+    0110100110010110100101100110100110010110011010010110100110010110\
+    0110100110010110100101100110100110010110011010010110100110010110\
+    1001011001101001011010011001011001101001100101101001011001101001";
+
+// Whether the nine low bits of a word have an odd number of ones.
+fn odd_of_nine(w: u16) -> bool
+    ensures { λ r. ⌜ r ≡ odd (w % 512) ⌝ }
+{
+    PARITY[(w % 512) as usize] == b'1'
+}
+
+// Whether a word has an odd number of ones: by its entry, and where it has more than nine bits by that of the bits above too.
 // Ruled out: even taken for odd; the low bit alone.
 pub fn odd(w: u16) -> bool
     ensures { λ r. ⌜ r ≡ odd w ⌝ }
 {
-    u16::count_ones(w) % 2 == 1
+    if w < 512 {
+        odd_of_nine(w)
+    } else {
+        odd_of_nine(w) != odd_of_nine(w / 512)
+    }
 }
 
 // The bit that gives a word even (PT=0) or odd (PT=1) parity; of a word with its parity bit, whether its parity is wrong.

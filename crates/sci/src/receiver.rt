@@ -1,7 +1,8 @@
 // The receiver: one sample of RXD at a time, with the flags that it raises.
 ghost use mathlib.Core.Path.{_≡_};
-ghost use mathlib.Core.Bool.{cond};
+ghost use mathlib.Core.Bool.{cond, _&&_};
 ghost use Prim.Native.Nat.{_+_, min};
+ghost use Rattle.sci.specs.Bits.{parityBit};
 ghost use Rattle.sci.specs.Control.{bitsOf};
 ghost use Rattle.sci.specs.Plain.{plain, passed};
 ghost use Rattle.sci.specs.Receiver.{startState, three, full, raised, entered, statusAfter, idleCount, takes, reaches, outcome, receiverAfter, received};
@@ -78,6 +79,13 @@ fn status_after(s: Status, o: Outcome, f: Frame, bad: bool, idles: bool) -> Stat
     let active = taken.raise_if(o.begun, Flags::RAF);
     let quiet = active.fall_if(o.abandoned | o.reached, Flags::RAF);
     quiet.raise_if(idles, Flags::IDLE)
+}
+
+// Wrong parity, where it is asked for: of a frame that is taken, with PE.
+fn wrong_parity(asked: bool, pt: bool, w: u16) -> bool
+    ensures { λ r. ⌜ r ≡ (asked && parityBit pt w) ⌝ }
+{
+    if asked { parity_bit(pt, w) } else { false }
 }
 
 fn idle_count(counted: bool, idle: u8, limit: u8) -> u8
@@ -202,7 +210,11 @@ impl Receiver {
     {
         let framer = self.framer;
         let o = self.outcome(s, sccr1, x);
-        let bad = control::pe(sccr1) & parity_bit(control::pt(sccr1), framer.shift);
+        let bad = wrong_parity(
+            o.taken & control::pe(sccr1),
+            control::pt(sccr1),
+            framer.shift,
+        );
         let idles = o.reached & !self.asleep & self.since;
         Received {
             receiver: self.after(o, sccr1, x),

@@ -1,0 +1,12 @@
+//! Links the archive that `rt staticlib parities` makes.
+
+use std::env;
+use std::path::Path;
+
+fn main() {
+    let here = env::var("CARGO_MANIFEST_DIR").expect("cargo sets it");
+    let folder = Path::new(&here).join("../../target/staticlib");
+    println!("cargo:rustc-link-search=native={}", folder.display());
+    println!("cargo:rustc-link-lib=static=parities");
+    println!("cargo:rerun-if-changed={}", folder.join("libparities.a").display());
+}
