@@ -44,20 +44,9 @@ fn serial_on() -> Vec<u8> {
     [RESET.to_vec(), write(2, 0x08, 4), write(2, 0x0A, 0x000C)].concat()
 }
 
-/// A quiet line in holds of 65,535 clocks.
-fn quiet() -> Vec<u8> {
-    let mut trace = serial_on();
-    for _ in 0..2_000 {
-        trace.extend(hold(0xFF, 1, 65_535));
-    }
-    trace
-}
-
-/// Characters on RXD and TXD, status then data read after each, while the queue wraps over its sixteen entries.
-fn busy() -> Vec<u8> {
-    let mut random = Random(1);
-    let mut trace = serial_on();
-    trace.extend(write(2, 0x16, 0x7B7E));
+/// The queue on, wrapping over its sixteen entries of random words.
+fn queue_on(random: &mut Random) -> Vec<u8> {
+    let mut trace = write(2, 0x16, 0x7B7E);
     for i in 0..16 {
         trace.extend(write(2, 0x120 + 2 * i, random.below(65_536) as u32));
         trace.extend(write(1, 0x140 + i, [0x0E, 0x4E, 0x8E][random.below(3) as usize]));
@@ -65,6 +54,41 @@ fn busy() -> Vec<u8> {
     trace.extend(write(2, 0x1C, 0x4F00));
     trace.extend(write(2, 0x18, 0x8104));
     trace.extend(write(2, 0x1A, 0x8404));
+    trace
+}
+
+/// What was set up, then holds of 65,535 clocks at one level of RXD.
+fn held(mut trace: Vec<u8>, rxd: u8) -> Vec<u8> {
+    for _ in 0..2_000 {
+        trace.extend(hold(0x7F, rxd, 65_535));
+    }
+    trace
+}
+
+/// A quiet line.
+fn quiet() -> Vec<u8> {
+    held(serial_on(), 1)
+}
+
+/// A line held at zero.
+fn zero() -> Vec<u8> {
+    held(serial_on(), 0)
+}
+
+/// A queue that wraps, on a quiet line.
+fn wrapping() -> Vec<u8> {
+    held([serial_on(), queue_on(&mut Random(3))].concat(), 1)
+}
+
+/// A queue that was halted, on a quiet line.
+fn halted() -> Vec<u8> {
+    held([serial_on(), queue_on(&mut Random(3)), write(2, 0x1E, 0x0100)].concat(), 1)
+}
+
+/// Characters on RXD and TXD, status then data read after each, while the queue wraps over its sixteen entries.
+fn busy() -> Vec<u8> {
+    let mut random = Random(1);
+    let mut trace = [serial_on(), queue_on(&mut random)].concat();
     for k in 0..15_000 {
         let character = random.below(256) as u32;
         let frame = 0x200 | character << 1;
@@ -137,7 +161,14 @@ fn main() -> ExitCode {
     let run = || -> std::io::Result<bool> {
         fs::create_dir_all(folder)?;
         let mut same = true;
-        for (name, records) in [("quiet", quiet()), ("busy", busy()), ("short", short())] {
+        for (name, records) in [
+            ("quiet", quiet()),
+            ("zero", zero()),
+            ("wrapping", wrapping()),
+            ("halted", halted()),
+            ("busy", busy()),
+            ("short", short()),
+        ] {
             same &= compare(name, records, replay, reference, folder)?;
         }
         Ok(same)
