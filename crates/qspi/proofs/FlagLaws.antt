@@ -10,7 +10,7 @@ use Rattle.qspi.specs.Spsr.{falls, raised, onlySpif, onlyModf, haltaIf}
 use Rattle.qspi.specs.Registers.{reset, withSpcr1, switched, writeSpcr1}
 use Rattle.qspi.specs.Parts.{withRegisters}
 use Rattle.qspi.specs.Queue.{clock, followed}
-use Rattle.qspi.specs.FlagLaws.{Flag, SPIF, MODF, HALTA, Act, clocked, statusSeen, spcr0Put, spcr1Put, spcr2Put, spcr3SpsrPut, receivePut, transmitPut, commandPut, member, isSet, isSeen, FlagShows, FlagFalls, FallsOnly, ReadSees, SeenOnly, SeenLasts, ResetForgets}
+use Rattle.qspi.specs.FlagLaws.{Flag, SPIF, MODF, HALTA, Act, clocked, statusSeen, spcr0Put, spcr1Put, spcr2Put, spcr3SpsrPut, receivePut, transmitPut, commandPut, member, isSet, isSeen, FlagShows, FlagFalls, FallsOnly, ReadSees, SeenOnly, SeenLasts, ResetForgets, CptqpStays}
 use Rattle.qspi.specs.declared.Qspi.{Qspi}
 use Rattle.qspi.specs.declared.Pins.{Pins}
 use Rattle.qspi.specs.declared.spsr.Flags.{Flags}
@@ -200,3 +200,14 @@ unfolding reset
 reset-forgets SPIF = (refl, refl)
 reset-forgets MODF = (refl, refl)
 reset-forgets HALTA = (refl, refl)
+
+pub cptqp-stays : CptqpStays
+cptqp-stays (clocked pins) q h = absurd (true≢false h)
+cptqp-stays statusSeen q h = refl
+cptqp-stays (spcr0Put v upper lower) q h = refl
+cptqp-stays (spcr1Put v upper lower) q h = ap (λ s. s .cptqp) (write-spsr q v upper lower)
+cptqp-stays (spcr2Put v upper lower) q h = refl
+cptqp-stays (spcr3SpsrPut v upper lower) q h = refl
+cptqp-stays (receivePut i v upper lower) q h = refl
+cptqp-stays (transmitPut i v upper lower) q h = refl
+cptqp-stays (commandPut i v upper lower) q h = refl

@@ -98,6 +98,21 @@ SeenLasts =
 abbrev pub ResetForgets : Type 0
 ResetForgets = (f : Flag) → (isSet f reset ≡ false) × (isSeen f reset ≡ false)
 
+-- CPTQP can't be written: nothing but a clock changes it.
+abbrev pub isClock : Act → Bool
+isClock (clocked pins) = true
+isClock statusSeen = false
+isClock (spcr0Put v upper lower) = false
+isClock (spcr1Put v upper lower) = false
+isClock (spcr2Put v upper lower) = false
+isClock (spcr3SpsrPut v upper lower) = false
+isClock (receivePut i v upper lower) = false
+isClock (transmitPut i v upper lower) = false
+isClock (commandPut i v upper lower) = false
+
+abbrev pub CptqpStays : Type 0
+CptqpStays = (a : Act) (q : Qspi) → isClock a ≡ false → acted a q .spsr .cptqp ≡ q .spsr .cptqp
+
 -- All of them.
 pub record FlagLaws : Type 0 where
   pub flag-shows : FlagShows
@@ -107,3 +122,4 @@ pub record FlagLaws : Type 0 where
   pub seen-only : SeenOnly
   pub seen-lasts : SeenLasts
   pub reset-forgets : ResetForgets
+  pub cptqp-stays : CptqpStays

@@ -17,7 +17,7 @@ use Rattle.qspi.proofs.Rising.{spe-rises, no-rise, silent-before}
 use Rattle.qspi.proofs.Rises.{modf-only, halta-only, halta-once}
 use Rattle.qspi.proofs.Miso.{miso-read, miso-zeros}
 use Rattle.qspi.proofs.FieldClauses.{field-clauses}
-use Rattle.qspi.proofs.FlagLaws.{flag-shows, flag-falls, falls-only, read-sees, seen-only, seen-lasts, reset-forgets}
+use Rattle.qspi.proofs.FlagLaws.{flag-shows, flag-falls, falls-only, read-sees, seen-only, seen-lasts, reset-forgets, cptqp-stays}
 use Rattle.qspi.proofs.Marked.{comes-round, k7, k8, k9, k10}
 
 clauses : Clauses
@@ -48,6 +48,7 @@ flags =
       seen-only = seen-only;
       seen-lasts = seen-lasts;
       reset-forgets = reset-forgets;
+      cptqp-stays = cptqp-stays;
     }
 
 returns : tie.Need-returns
