@@ -3,7 +3,7 @@ use mathlib.Core.Bool.{true}
 use mathlib.Core.Path.{_≡_, refl}
 use lib.ListN.{length, replicate}
 use Rattle.sci.specs.Status.{has, raise, raiseIf, fall, fallIf}
-use Rattle.sci.specs.Framer.{startBit, stopBit, fixed, framed}
+use Rattle.sci.specs.Framer.{startBit, dataBit, stopBit, fixed, framed}
 use Rattle.sci.specs.Receiver.{outcome, raised, entered, statusAfter, receiverAfter, received}
 use Rattle.sci.specs.Transmitter.{sent}
 use Rattle.sci.specs.Serial.{wroteSccr0, wroteSccr1}
@@ -15,7 +15,7 @@ use Rattle.sci.proofs.SerialClauses.{serial-clauses}
 use Rattle.sci.proofs.DataClauses.{data-clauses}
 
 met : instances ≡ replicate (length instances) true
-unfolding has raise raiseIf fall fallIf startBit stopBit framed fixed outcome raised entered statusAfter receiverAfter received sent wroteSccr0 wroteSccr1
+unfolding has raise raiseIf fall fallIf startBit dataBit stopBit framed fixed outcome raised entered statusAfter receiverAfter received sent wroteSccr0 wroteSccr1
 met = refl
 
 pub clauses : Clauses

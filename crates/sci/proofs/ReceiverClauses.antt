@@ -2,27 +2,28 @@
 -- Assumes nothing.
 use mathlib.Core.Path.{_≡_, refl, ap, sym, _∙_}
 use mathlib.Core.Bool.{Bool, true, false, cond, not, _&&_, _||_, Bool·beq, and-true, and-false, and-comm, or-comm, false≢true}
-use Prim.Native.Nat.{ℕ, zero, suc, _+_, _-_, _%_, _≤_, _<_, min}
+use Prim.Native.Nat.{ℕ, zero, suc, _+_, _-_, _*_, _/_, _^_, _%_, _≤_, _<_, min}
 use native.Mathlib.Omega.{arith}
 use lib.Count.{ones}
-use lib.Dec.{eqb, ltb}
+use lib.Dec.{eqb}
 use Rattle.steps.specs.Bits.{digit}
 use Rattle.sci.specs.Flags.{PF, FE, OR, IDLE, RAF, RDRF, receiveFlags}
 use Rattle.sci.specs.Members.{member}
 use Rattle.sci.specs.Status.{has}
 use Rattle.sci.specs.Control.{ILT, PT, PE, M, WAKE, bitsOf, frameSamples}
-use Rattle.sci.specs.Bits.{vote, parityBit}
-use Rattle.sci.specs.Framer.{ends, frameOf, framed}
+use Rattle.sci.specs.Bits.{parityBit}
+use Rattle.sci.specs.Framer.{ends, frameOf, collected, framed}
 use Rattle.sci.specs.Receiver.{three, addressed, outcome, statusAfter, receiverAfter, received}
-use Rattle.sci.specs.ReceiverClauses.{startBegins, startAbandoned, frameEnds, idleReached, rises, lastBit, frameTaken, SampleClauses, ReceiverClauses}
+use Rattle.sci.specs.ReceiverClauses.{startBegins, startAbandoned, frameEnds, idleReached, rises, lastBit, frameTaken, readOne, SampleClauses, ReceiverClauses}
 use Rattle.sci.specs.declared.status.Status.{Status}
 use Rattle.sci.specs.declared.framer.Framer.{Framer}
 use Rattle.sci.specs.declared.receiver.Receiver.{Receiver}
 use Rattle.sci.specs.declared.receiver.Outcome.{Outcome}
+use Rattle.sci.proofs.Votes.{by-ones}
 use Rattle.sci.proofs.Flagged.{isSet, has-flag}
 use Rattle.sci.proofs.Sending.{low-at}
 use Rattle.sci.proofs.Samples.{stays-awake, count-zero}
-use Rattle.sci.proofs.Turns.{Turned, turned}
+use Rattle.sci.proofs.Turns.{Turned, turned, data-bit}
 use Rattle.sci.proofs.Rising.{none-after, raf-after, idle-after, rdrf-after, or-after, fe-after, pf-after}
 use Rattle.sci.proofs.IdleCount.{reached-is, ones-counted}
 
@@ -38,16 +39,9 @@ parity-is false zero h = refl
 parity-is false (suc zero) h = refl
 parity-is pt (suc (suc d)) h = absurd (omega arith)
 
--- A vote for zero by the number of ones.
-zero-voted : (a b c : Bool) → not (vote a b c .bit) ≡ ltb (digit a + digit b + digit c) 2
-zero-voted true true true = refl
-zero-voted true true false = refl
-zero-voted true false true = refl
-zero-voted true false false = refl
-zero-voted false true true = refl
-zero-voted false true false = refl
-zero-voted false false true = refl
-zero-voted false false false = refl
+collects : (b : Bool) (n w : ℕ) → collected b n w ≡ w / 2 + digit b * 2 ^ (n - 1)
+collects true n w = omega arith
+collects false n w = omega arith
 
 -- Of a frame taken (T) with RDRF (R) and OR (O): what enters, what is lost.
 rdrf-of : (T R O : Bool) → R || (T && not (T && (R || O))) ≡ R || (T && not O)
@@ -192,11 +186,18 @@ module _ (c : ℕ) (r : Receiver) (s : Status) (x : Bool) (h : r .framer .rt ≤
       go true = ap (λ (b : Bool). PE c && b) (parity-is (PT c) (ones (f .shift) % 2) (omega arith))
       go false = refl
 
-  fe : has t FE ≡ has s FE || (rises (has s RDRF) (has t RDRF) && ltb (digit (f .first) + digit (f .second) + digit x) 2)
+  fe : has t FE ≡ has s FE || (rises (has s RDRF) (has t RDRF) && not (readOne r x))
   fe =
       has-flag 1 t ∙ flag-is 1 ∙ fe-after s o (frameOf f x) bad idles
       ∙ rw (has-flag 1 s, enters)
-      (ap (λ (b : Bool). isSet 1 s || (o .taken && not (o .lost) && b)) (zero-voted (f .first) (f .second) x))
+      (ap (λ (b : Bool). isSet 1 s || (o .taken && not (o .lost) && not b)) (by-ones (f .first) (f .second) x))
+
+  reads : f .framing ≡ true → f .starting ≡ false → 0 < f .left → f .rt ≡ 9 →
+      q .framer .shift ≡ f .shift / 2 + digit (readOne r x) * 2 ^ (n - 1)
+  unfolding received receiverAfter
+  reads e u l z =
+      data-bit n f (three r) x e u l z ∙ ap (λ (b : Bool). collected b n (f .shift)) (by-ones (f .first) (f .second) x)
+      ∙ collects (readOne r x) n (f .shift)
 
   wakes-idle : r .asleep ≡ true → WAKE c ≡ false → q .asleep ≡ not (idleReached n r q)
   unfolding received receiverAfter outcome
@@ -237,6 +238,7 @@ module _ (c : ℕ) (r : Receiver) (s : Status) (x : Bool) (h : r .framer .rt ≤
         scdr = scdr;
         pf = pf;
         fe = fe;
+        reads = reads;
         wakesIdle = wakes-idle;
         wakesFrame = wakes-frame;
         awake = stays-awake r s c x;

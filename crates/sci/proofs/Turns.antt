@@ -7,9 +7,10 @@ use native.Mathlib.Omega.{arith}
 use lib.Dec.{eqb, leb}
 use borrow.Author.Tests.{eqb-true, eqb-false, eq-eqb, ne-eqb}
 use Rattle.sci.specs.Bits.{vote, onesOf}
-use Rattle.sci.specs.Framer.{begins, abandons, ends, searched, judged, startBit, dataBit, stopBit, inBit, nextRt, fixed, adjusts, adjusted, framed}
+use Rattle.sci.specs.Framer.{begins, abandons, ends, searched, judged, startBit, dataBit, stopBit, inBit, collected, nextRt, fixed, adjusts, adjusted, framed}
 use Rattle.sci.specs.declared.framer.Framer.{Framer}
 use Rattle.sci.proofs.Frames.{by-cond, Adjusting, adjusting}
+use Rattle.sci.proofs.Moves.{moving}
 
 pub record Turned (f : Framer) (three x : Bool) (g : Framer) : Type 0 where
   pub begun : begins f three x ≡ not (f .framing) && g .framing
@@ -127,3 +128,12 @@ turned n f three x h =
     by-cond (Turned f three x) (adjusts n f three x) (λ a. adjusted-turned f three x (adjusting n f three x a))
     (λ a. by-cond (Turned f three x) (f .framing) (λ e. in-bit n f three x h e (f .starting) (eqb (f .left) 0) refl refl)
     (λ e. search n f three x h e (begins f three x) refl))
+
+-- RT10 of a data bit.
+pub data-bit : (n : ℕ) (f : Framer) (three x : Bool) → f .framing ≡ true → f .starting ≡ false → 0 < f .left → f .rt ≡ 9 →
+    framed n f three x .shift ≡ collected (vote (f .first) (f .second) x .bit) n (f .shift)
+unfolding fixed dataBit
+data-bit n f three x e s l z =
+    let more : eqb (f .left) 0 ≡ false = ne-eqb (f .left) 0 (λ k. omega arith) in
+    let here : nextRt f ≡ 10 = omega arith in
+    ap (λ (g : Framer). g .shift) (moving .rule n f three x .voting (omega arith) (omega arith)) ∙ rw (e, s, more, here)

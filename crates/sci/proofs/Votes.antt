@@ -1,6 +1,6 @@
 -- The vote, worked out from the number of ones; and a start bit's vote at RT7.
 use mathlib.Core.Bool.{Bool, true, false}
-use mathlib.Core.Path.{_≡_, refl}
+use mathlib.Core.Path.{_≡_, refl, ap, sym}
 use Prim.Native.Nat.{_+_, _/_, _%_, _≤_}
 use native.Mathlib.Omega.{arith}
 use lib.Dec.{leb}
@@ -21,6 +21,10 @@ voted false true true = refl
 voted false true false = refl
 voted false false true = refl
 voted false false false = refl
+
+-- The bit alone.
+pub by-ones : (a b c : Bool) → vote a b c .bit ≡ leb 2 (onesOf a b c)
+by-ones a b c = sym (ap (λ (v : Voted). v .bit) (voted a b c))
 
 -- A start bit that stands has at most a single one at RT3, RT5 and RT7, which disagrees.
 pub judged-ones : (a b c : Bool) (f : Framer) → judged (majority a b c) f (disagreed a b c) ≡ judged (majority a b c) f (onesOf a b c)

@@ -36,6 +36,10 @@ starting = record { framing = true; starting = true; left = 8; rt = 6; first = t
 abbrev stopping : Framer
 stopping = record { framing = true; starting = false; left = 0; rt = 9; first = true; second = true; noise = 0; moved = false; shift = 128 }
 
+-- RT9 of the last data bit, with a one at RT8 and RT9.
+abbrev deciding : Framer
+deciding = record { framing = true; starting = false; left = 1; rt = 9; first = true; second = true; noise = 0; moved = false; shift = 0 }
+
 abbrev begins : Bool
 begins =
     let r : Receiver = receiver searching 3 false in
@@ -46,6 +50,9 @@ abbrev abandons : Bool
 abandons =
     let r : Receiver = receiver starting 0 false in
     startAbandoned r (heard r 0 true .receiver)
+
+abbrev reads : Bool
+reads = eqb (heard (receiver deciding 0 false) 0 false .receiver .framer .shift) 128
 
 -- With ILT=1.
 abbrev ends : Bool
@@ -88,4 +95,4 @@ stops = not (has (wroteSccr1 (wroteSccr1 resetSci 4 true true) 0 true true .stat
 
 abbrev pub instances : List Bool
 instances =
-    begins ∷ abandons ∷ ends ∷ wakesIdle ∷ wakesFrame ∷ startsFrame ∷ startsPreamble ∷ endsSending ∷ restarts ∷ stops ∷ []
+    begins ∷ abandons ∷ reads ∷ ends ∷ wakesIdle ∷ wakesFrame ∷ startsFrame ∷ startsPreamble ∷ endsSending ∷ restarts ∷ stops ∷ []

@@ -3,9 +3,9 @@
 use mathlib.Core.Bool.{Bool, true, false, cond, not, _&&_, _||_}
 use mathlib.Core.List.{List, [], _∷_}
 use mathlib.Core.Path.{_≡_}
-use Prim.Native.Nat.{ℕ, suc, _+_, _-_, _%_, _≤_, min}
+use Prim.Native.Nat.{ℕ, suc, _+_, _-_, _*_, _/_, _%_, _^_, _≤_, _<_, min}
 use lib.Count.{ones}
-use lib.Dec.{eqb, ltb}
+use lib.Dec.{eqb, leb, ltb}
 use lib.ListN.{getD}
 use Rattle.steps.specs.Bits.{digit}
 use Rattle.sci.specs.Flags.{PF, FE, OR, IDLE, RAF, RDRF, receiveFlags}
@@ -46,6 +46,10 @@ abbrev pub frameTaken : ℕ → Receiver → Receiver → Bool
 frameTaken sccr1 r q =
     frameEnds r q && (not (r .asleep) || (WAKE sccr1 && lastBit (bitsOf (M sccr1)) (r .framer .shift)))
 
+-- A bit as it is read at its RT10: one with two ones or more at RT8, RT9 and RT10.
+abbrev pub readOne : Receiver → Bool → Bool
+readOne r x = leb 2 (digit (r .framer .first) + digit (r .framer .second) + digit x)
+
 -- One sample x, of a receiver whose RT is none past 16.
 module _ (sccr1 : ℕ) (r : Receiver) (s : Status) (x : Bool) where
   abbrev q : Receiver
@@ -76,9 +80,11 @@ module _ (sccr1 : ℕ) (r : Receiver) (s : Status) (x : Bool) where
     -- PF: PE and wrong parity of the word that enters. The number of its ones is to be even with PT=0 and odd with PT=1.
     pub pf : has t PF
         ≡ has s PF || (rises (has s RDRF) (has t RDRF) && PE sccr1 && not (eqb (ones (q .scdr) % 2) (digit (PT sccr1))))
-    -- FE: the stop bit of the word that enters has fewer than two ones at RT8, RT9 and RT10.
-    pub fe : has t FE
-        ≡ has s FE || (rises (has s RDRF) (has t RDRF) && ltb (digit (r .framer .first) + digit (r .framer .second) + digit x) 2)
+    -- FE: the stop bit of the word that enters is read as zero.
+    pub fe : has t FE ≡ has s FE || (rises (has s RDRF) (has t RDRF) && not (readOne r x))
+    -- A data bit is read at its RT10, and comes in above those before it.
+    pub reads : r .framer .framing ≡ true → r .framer .starting ≡ false → 0 < r .framer .left → r .framer .rt ≡ 9 →
+        q .framer .shift ≡ r .framer .shift / 2 + digit (readOne r x) * 2 ^ (n - 1)
     -- Asleep with WAKE=0 it wakes at the idle count's limit, with WAKE=1 by a frame whose last bit before stop is 1, and by nothing else.
     pub wakesIdle : r .asleep ≡ true → WAKE sccr1 ≡ false → q .asleep ≡ not (idleReached n r q)
     pub wakesFrame : r .asleep ≡ true → WAKE sccr1 ≡ true → q .asleep ≡ not (frameEnds r q && lastBit n (r .framer .shift))
