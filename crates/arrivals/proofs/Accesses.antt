@@ -1,17 +1,16 @@
 -- A reset, a read or a write never raises RDRF. Assumes nothing.
-use mathlib.Core.Path.{_≡_, refl, ap, sym, _∙_}
-use mathlib.Core.Bool.{Bool, true, false, cond, not, _&&_}
+use mathlib.Core.Path.{_≡_, sym, _∙_}
+use mathlib.Core.Bool.{Bool, true, false, cond}
 use mathlib.Core.List.{List, [], _∷_}
 use Prim.Native.Nat.{ℕ, _*_, _/_, _%_}
 use lib.Dec.{eqb}
 use Rattle.steps.specs.Bits.{merge}
 use Rattle.sci.specs.Flags.{RDRF, RAF, receiveFlags, transmitFlags}
-use Rattle.sci.specs.Members.{member}
-use Rattle.sci.specs.Status.{has, fall, markSeen}
+use Rattle.sci.specs.Status.{markSeen}
 use Rattle.sci.specs.Control.{RE, sccr0Bits}
 use Rattle.sci.specs.Line.{readStatus}
-use Rattle.sci.specs.Serial.{resetSci, sccr1Word, dataWritten, wroteSccr0, stopped, withSccr1, wroteSccr1, sccr0Guarded, sccr1Guarded}
-use Rattle.sci.specs.History.{Step, reset, reads, writesSccr0, writesSccr1, writesScdr, step, run}
+use Rattle.sci.specs.Serial.{sccr1Word, dataWritten, wroteSccr0, stopped, withSccr1, wroteSccr1, sccr0Guarded, sccr1Guarded}
+use Rattle.sci.specs.History.{Step, reset, reads, writesSccr0, writesSccr1, step, run}
 use Rattle.sci.specs.declared.status.Status.{Status}
 use Rattle.sci.specs.declared.serial.Sci.{Sci}
 use Rattle.sci.proofs.Flagged.{isSet, has-flag, set-fall, set-markSeen, fallSeen-clear}

@@ -3,32 +3,28 @@ use mathlib.Core.Path.{_≡_, refl, ap, sym, _∙_}
 use mathlib.Core.Bool.{Bool, true, false, cond, not, _&&_}
 use mathlib.Core.List.{List, [], _∷_, _++_}
 use mathlib.Core.Option.{Option, none, some}
-use Prim.Native.Nat.{ℕ, zero, suc, _%_}
+use Prim.Native.Nat.{ℕ, zero, suc}
 use Rattle.sci.specs.Flags.{RDRF, OR}
 use Rattle.sci.specs.Status.{has, raise, raiseIf}
 use Rattle.sci.specs.Receiver.{outcome}
 use Rattle.sci.specs.ReceiverClauses.{rises}
 use Rattle.sci.specs.Transmitter.{sent}
-use Rattle.sci.specs.Serial.{resetSci}
-use Rattle.sci.specs.History.{run, sampling}
-use Rattle.sci.specs.Overrun.{Mark, frameLost, wordCame, statusRead, wordDelivered, wasReset, lookMarks, deliveryMarks}
+use Rattle.sci.specs.History.{sampling}
+use Rattle.sci.specs.Overrun.{Mark, frameLost, wordCame, lookMarks, deliveryMarks}
 use Rattle.sci.specs.declared.status.Status.{Status}
 use Rattle.sci.specs.declared.receiver.Outcome.{Outcome}
 use Rattle.sci.specs.declared.serial.Sci.{Sci}
-use Rattle.sci.proofs.History.{clocks}
 use Rattle.qsm.specs.Lanes.{touches}
 use Rattle.qsm.specs.State.{resetModule}
 use Rattle.qsm.specs.Event.{held, clockModule, resets, does}
 use Rattle.qsm.specs.declared.state.Module.{Module}
-use Rattle.qsm.specs.declared.event.Access as bus
 use Rattle.qsm.specs.declared.event.Access.the-variants.{Read, Write}
-use Rattle.qsm.specs.declared.event.Event.{Event}
 use Rattle.qsm.specs.declared.event.Event.the-variants.{Reset, Hold}
 use Rattle.qsm.specs.declared.event.Event.the-variants as event
-use Rattle.histories.specs.History.{after, receiverRead, freshWord, clockMarks, eventMarks}
+use Rattle.histories.specs.History.{after, receiverRead, freshWord, clockMarks}
 use Rattle.histories.proofs.Follows.{follows}
-use Rattle.arrivals.specs.Words.{Word, comes, brought, clockWords, eventWords, bitsOf, figuresOf, came}
-use Rattle.arrivals.specs.Arrival.{fills, inScdr, told, arrival, figureOf}
+use Rattle.arrivals.specs.Words.{Word, brought, clockWords, bitsOf, figuresOf, came}
+use Rattle.arrivals.specs.Arrival.{fills, inScdr, told, figureOf}
 use Rattle.arrivals.specs.declared.Arrival.the-variants.{Came, Nothing}
 use Rattle.arrivals.specs.Shown.{AsMarked, Told, FigureTold, NoisyWord}
 use Rattle.arrivals.proofs.Clocks.{full, kept, clock-words, serial-words}

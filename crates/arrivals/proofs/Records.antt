@@ -1,24 +1,21 @@
 -- The words of a trace's records: one record at a time, and buffer by buffer. Assumes nothing.
 use mathlib.Core.Path.{_≡_, refl, ap, sym, _∙_}
 use mathlib.Core.List.{List, [], _∷_, _++_, append-nil, append-assoc}
-use Prim.Native.Nat.{ℕ, _*_, _<_, _≤_}
+use Prim.Native.Nat.{ℕ, _<_}
 use native.Mathlib.Omega.{arith}
-use lib.ListN.{length, take}
-use Rattle.qsm.specs.Event.{step}
+use lib.ListN.{length}
 use Rattle.qsm.specs.declared.state.Module.{Module}
-use Rattle.qsm.specs.declared.event.Event.{Event}
-use Rattle.trace.specs.Trace.{parsed, answerLength}
+use Rattle.trace.specs.Trace.{parsed}
 use Rattle.trace.specs.Play.{Outcome, play}
-use Rattle.trace.specs.Laws.{unread, Buffer, Streamed, streamed}
+use Rattle.trace.specs.Laws.{unread, Streamed, streamed}
 use Rattle.trace.specs.declared.Parsed.{Parsed}
 use Rattle.trace.specs.declared.Parsed.the-variants.{Record, Unknown, Cut}
 use Rattle.trace.proofs.Playing.{record-alone, played}
 use Rattle.trace.proofs.Laws.{written-within}
-use Rattle.histories.specs.History.{after}
 use Rattle.histories.proofs.Lifted.{stepped}
-use Rattle.arrivals.specs.Words.{Word, eventWords, recordWords, recordLeaves, words, leaves, figuresOf}
+use Rattle.arrivals.specs.Words.{Word, recordWords, recordLeaves, words, leaves, figuresOf}
 use Rattle.arrivals.specs.Arrival.{told}
-use Rattle.arrivals.specs.Shown.{RecordTold, StateLeft, toldBy, Small, AllTold}
+use Rattle.arrivals.specs.Shown.{RecordTold, StateLeft, toldBy, AllTold}
 use Rattle.arrivals.proofs.Events.{event-told, still}
 
 pub state-left : StateLeft

@@ -3,7 +3,6 @@ ghost use mathlib.Core.Path.{_≡_};
 ghost use mathlib.Core.Bool.{true};
 ghost use mathlib.Core.List.{[]};
 ghost use Prim.Native.Nat.{_+_, max};
-ghost use lib.Dec.{ltb};
 ghost use Rattle.steps.specs.Bits.{digit};
 ghost use Rattle.arrivals.specs.Arrival.{fills, arrival};
 ghost use Rattle.arrivals.specs.Tally.{upTo, tallyOf, withFigure, withArrival};

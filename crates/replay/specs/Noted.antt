@@ -8,7 +8,8 @@ use Rattle.arrivals.specs.Tally.{tallyOf}
 use Rattle.arrivals.specs.declared.Tally.{Tally}
 use Rattle.replay.specs.declared.run.Run.{Run}
 
--- Module and tally are those of the records answered, one after the other from reset.
+-- Module and tally are those of one list of records, played from reset on. Which records come is the system's; that each turn adds the word of its own
+-- record is the contract of `note` with the law `RecordTold`.
 pub record Notes (r : Run) (t : Tally) : Type 0 where
   pub answered : List (List ℕ)
   pub state : r .state ≡ leaves answered resetModule

@@ -49,6 +49,7 @@ fn say_arrival(tally: Tally, a: Arrival) {
 }
 
 // The tally past a record, whose word, if one came, is said.
+// Ruled out: a word left out or counted twice; the tally of an earlier record.
 fn note(before: Module, after: Module, tally: Tally) -> Tally
     ensures { λ r. ⌜ r ≡ withArrival tally (arrival before after) ⌝ }
 {
@@ -71,7 +72,7 @@ fn answer() -> [u8; 10]
     [0u8; 10]
 }
 
-// Ruled out: a word left out or told twice; a figure of a lost frame in the tally.
+// Ruled out: a tally of no words where one waits in SCDR; more noisy words than words.
 pub fn replay(fd: i32) -> Noted
     ensures { λ r. ⌜ Notes (r .turned .run) (r .tally) ⌝ }
 {
