@@ -2,7 +2,6 @@
 use mathlib.Core.Path.{_≡_, refl, sym, ap, _∙_}
 use mathlib.Core.Bool.{Bool, true, false, cond}
 use Prim.Native.Nat.{ℕ, _+_, _-_, _%_, _≤_, _<_}
-use native.Mathlib.Nat.{mod-le}
 use native.Mathlib.Omega.{arith}
 use Rattle.steps.specs.Iterate.{iterate}
 use Rattle.steps.proofs.Iterate.{iterate-add, iterate-period}
@@ -13,11 +12,6 @@ use Rattle.qspi.specs.declared.Qspi.{Qspi}
 
 pub period-out : PeriodOut
 period-out pins n p q = iterate-period n p (λ r. clock r pins) q
-
--- The clocks that remain are not more than were left.
-pub rest-less : (again : Bool) (left p : ℕ) → cond again (left % p) left ≤ left
-rest-less true left p = mod-le left p
-rest-less false left p = omega arith
 
 module _ (f : Qspi → Qspi) where
   -- k of the clocks left.

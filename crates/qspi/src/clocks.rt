@@ -139,7 +139,7 @@ impl Qspi {
 
     // n clocks at one state of the pins. The cost doesn't grow with n: at most the edges up to the queue's end, and where it wraps those of
     // three rounds, or of 4,096 clocks, more. A queue that is idle, halted or finished is still, and one that wraps comes back to a state.
-    // Ruled out: only the first clock played; one clock too many; an edge lost among the quiet clocks; a period one clock short taken out.
+    // Ruled out: only the first clock played; one clock too many; an edge lost among the quiet clocks; a period one clock off taken out.
     pub fn clocks(self, n: u32, pins: Pins) -> Qspi
         ensures { λ r. ⌜ r ≡ iterate n (λ q. clock q pins) self ⌝ }
     {

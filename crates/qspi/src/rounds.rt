@@ -27,7 +27,8 @@ fn least(a: u32, b: u32) -> u32
 // What is left of n clocks without whole periods of p.
 fn rest(periodic: bool, n: u32, p: u32) -> u32
     requires { ⌜ 0 < p ⌝ }
-    ensures { λ r. ⌜ r ≡ cond periodic (n % p) n ⌝ }
+    ensures value { λ r. ⌜ r ≡ cond periodic (n % p) n ⌝ }
+    ensures less { λ r. ⌜ r ≤ n ⌝ }
 {
     if periodic { n % p } else { n }
 }

@@ -8,7 +8,7 @@ use Rattle.steps.specs.Iterate.{iterate}
 use Rattle.qspi.specs.Queue.{clock}
 use Rattle.qspi.specs.declared.Qspi.{Qspi}
 use Rattle.qspi.proofs.Quiet.{at-end}
-use Rattle.qspi.proofs.Returning.{stretched, further-back, rested, rest-less, just-saved}
+use Rattle.qspi.proofs.Returning.{stretched, further-back, rested, just-saved}
 use Rattle.qspi.proofs.Qspi.rounds.Statement.{statement}
 use Rattle.qspi.proofs.Qspi.rounds.Tie as tie
 
@@ -38,14 +38,7 @@ rest-requires c κs =
 loop-less : tie.Need-loop-less Inv-loop μ-loop
 loop-less c =
     let k = c .before .before .before .before .before .stretch in
-    let loop = c .before .before .before .before .before .before .before .loop in
-    omega (
-      arith,
-      c .rest .ensures,
-      rest-less (c .before .same .result) (loop .left - k .result) (loop .saved-left - (loop .left - k .result)),
-      k .ensures .0,
-      k .ensures .1,
-    )
+    omega (arith, c .rest .ensures .1, k .ensures .0, k .ensures .1)
 
 loop-again : tie.Need-loop-again Inv-loop μ-loop
 loop-again c =
@@ -55,7 +48,7 @@ loop-again c =
     let start = at .before .before .before .before .before .args in
     let f : Qspi → Qspi = λ r. clock r (start .pins) in (
       search needs,
-      rw (c .rest .ensures)
+      rw (c .rest .ensures .0)
           (rested f (c .before .same .result) _ _ _ _ (c .before .same .ensures)
           (omega (arith, loop .inv .0, k .ensures .0, k .ensures .1))
           (rw (at .played .ensures)
