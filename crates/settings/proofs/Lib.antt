@@ -1,0 +1,5 @@
+pub mod Shapes
+pub mod Walking
+pub mod Accepting
+pub mod Ordered
+pub mod Ways
