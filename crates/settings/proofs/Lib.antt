@@ -3,3 +3,10 @@ pub mod Walking
 pub mod Accepting
 pub mod Ordered
 pub mod Ways
+pub mod Standing
+pub mod Calls
+pub mod Putting
+pub mod Inductions
+pub mod Keeping
+pub mod Made
+pub mod Meeting

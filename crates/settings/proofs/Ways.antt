@@ -98,7 +98,7 @@ module _ (b : List ℕ) (used : ℕ) (r : Record) where
         (record { used = ap (λ (n : ℕ). used + n) size-is; refusal = refl; buffer = wrote _ part-is })
 
 -- Where a record is let there is room for it.
-by-record : (last count : ℕ) (rs : List Record) (fits : Bool) (r : Record) → judge last count rs fits r ≡ 0 → fits ≡ true
+pub by-record : (last count : ℕ) (rs : List Record) (fits : Bool) (r : Record) → judge last count rs fits r ≡ 0 → fits ≡ true
 by-record last count rs true r e = refl
 by-record last count rs false (Added a) e = no-refusal (unmodelled a) (leb (a .number) last) false e .2
 by-record last count rs false (Withdrawn n) e = no-refusal false (not (eqb (latest false n rs .refusal) 0)) false e .2

@@ -2,3 +2,5 @@ pub mod Records
 pub mod Rules
 pub mod Contents
 pub mod Editions
+pub mod Laws
+pub mod Shown

@@ -7,6 +7,7 @@ ghost use Rattle.settings.specs.Records.{sizeOf, bytesOf};
 ghost use Rattle.settings.specs.Editions.{changed, asked, add, withdraw, get, newest, Changes};
 ghost use Rattle.settings.specs.declared.records.Record.the-variants.{Added, Withdrawn};
 
+mod claims;
 mod contents;
 pub mod records;
 mod rules;
