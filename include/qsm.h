@@ -1,5 +1,6 @@
 /*
- * Motorola's queued serial module (QSM), as a struct that a host keeps and changes by six functions; and a tool for its logs, qsm_compare.
+ * Motorola's queued serial module (QSM), as a struct that a host keeps and changes by six functions; a tool for its logs, qsm_compare; and register settings by edition,
+ * qsm_editions_add and three more.
  *
  * For C11 and C++11 on x86-64. The archive is made by `rt staticlib qsm_c`; link target/staticlib/libqsm_c.a.
  *
@@ -14,6 +15,7 @@
  *     (assignment or memcpy: a saved state is a copy), and what these functions made of it. Never null.
  *   - `trace` points to `length` bytes, `log` to `room` bytes, and the two do not overlap. Never null, also where there are 0 bytes.
  *   - `first` and `second` point to so many bytes and may overlap, `list` to `room` numbers that overlap neither. Never null either.
+ *   - `buffer` points to `length` bytes, whatever they are; `used` may be any number. Never null either.
  *   - Every bool, in the calls and in the struct, is 0 or 1.
  * There are no hidden variables: different modules may be used by different threads at once.
  */
@@ -35,9 +37,11 @@ enum qsm_refusal {
     QSM_UNMAPPED = 2,     /* a byte touched is not in the map */
     QSM_UNMODELLED = 3,   /* a write would set an unmodelled bit, BITS 1 to 7, or SPE with MSTR clear */
     QSM_GUARDED = 4,      /* a write would change a guarded field while its half is on */
-    QSM_UNKNOWN_KIND = 5, /* trace: a record of unknown kind */
-    QSM_CUT_RECORD = 6,   /* trace: a record cut by the end; compare: a length that is no multiple of 10 */
-    QSM_NO_ROOM = 7       /* trace: fewer than 10 bytes left of the log; compare: the list is too short */
+    QSM_UNKNOWN_KIND = 5, /* trace: a record of unknown kind; editions: the buffer has one, or one that would have been refused */
+    QSM_CUT_RECORD = 6,   /* trace: a record cut by the end; compare: a length that is no multiple of 10; editions: the used length cuts a
+                             record or passes the buffer's end */
+    QSM_NO_ROOM = 7,      /* trace: fewer than 10 bytes left of the log; compare: the list is too short; editions: 64 records, or no room */
+    QSM_NO_EDITION = 8    /* editions: one to add that is not above the last, one to withdraw or to get that is not there */
 };
 
 /* Offsets of the registers from the module's base. Words are big-endian. */
@@ -203,6 +207,25 @@ struct qsm_compared {
     size_t length;   /* its bytes */
 };
 
+/* The most records that a buffer of editions has; the bytes of one that adds an edition and of one that withdraws it. */
+enum qsm_editions { QSM_EDITIONS_RECORDS = 64, QSM_EDITIONS_ADDED = 11, QSM_EDITIONS_WITHDRAWN = 3 };
+
+/* An edition, and the register settings that it has. */
+struct qsm_edition {
+    uint16_t number; /* 1 to 65,535 */
+    uint16_t sccr0, sccr1, spcr0, spcr1;
+};
+
+struct qsm_editions_changed {
+    size_t used;     /* the used length after the call: the same where it is refused */
+    uint8_t refusal; /* QSM_UNMODELLED, QSM_UNKNOWN_KIND to QSM_NO_EDITION; else QSM_ANSWERED */
+};
+
+struct qsm_editions_given {
+    struct qsm_edition edition; /* as it was added; zeros where the call is refused */
+    uint8_t refusal;            /* QSM_UNKNOWN_KIND, QSM_CUT_RECORD, QSM_NO_EDITION; else QSM_ANSWERED */
+};
+
 /* A module fresh from reset. */
 struct qsm qsm_new(void);
 
@@ -243,6 +266,21 @@ struct qsm_played qsm_play(struct qsm m, const uint8_t *trace, size_t length, ui
  */
 struct qsm_compared qsm_compare(const uint8_t *first, size_t first_length, const uint8_t *second, size_t second_length,
                                 uint64_t *list, size_t room);
+
+/*
+ * Register settings by edition, as records in a buffer of the host's, of which the first `used` bytes are in use: 0 at first, later what the
+ * last change gave. An edition is added above all that were added before. Withdrawn, it is not given any more; its room stays in use.
+ *
+ * Refusals come in the order QSM_UNKNOWN_KIND, QSM_CUT_RECORD (both of the buffer), QSM_UNMODELLED (a module after a reset would refuse one of
+ * SCCR0, SCCR1, SPCR0, SPCR1, written in this order), QSM_NO_EDITION, QSM_NO_ROOM. A refusal changes no byte of the buffer; a change writes
+ * those of its record alone, behind the used length. A buffer that was made by these calls is never refused for itself.
+ */
+struct qsm_editions_changed qsm_editions_add(uint8_t *buffer, size_t length, size_t used, struct qsm_edition edition);
+struct qsm_editions_changed qsm_editions_withdraw(uint8_t *buffer, size_t length, size_t used, uint16_t number);
+
+/* The edition of a number, and the newest, which is the largest; only if they are not withdrawn. */
+struct qsm_editions_given qsm_editions_get(const uint8_t *buffer, size_t length, size_t used, uint16_t number);
+struct qsm_editions_given qsm_editions_newest(const uint8_t *buffer, size_t length, size_t used);
 
 #ifdef __cplusplus
 }
@@ -292,6 +330,10 @@ QSM_STRUCT(qsm_played, 8, 184); QSM_AT(qsm_played, state, 0, 158); QSM_AT(qsm_pl
 QSM_AT(qsm_played, written, 168, 8); QSM_AT(qsm_played, stop, 176, 1);
 QSM_STRUCT(qsm_compared, 8, 32); QSM_AT(qsm_compared, count, 0, 8); QSM_AT(qsm_compared, refusal, 8, 1);
 QSM_AT(qsm_compared, second, 9, 1); QSM_AT(qsm_compared, start, 16, 8); QSM_AT(qsm_compared, length, 24, 8);
+QSM_STRUCT(qsm_edition, 2, 10); QSM_AT(qsm_edition, number, 0, 2); QSM_AT(qsm_edition, sccr0, 2, 2); QSM_AT(qsm_edition, sccr1, 4, 2);
+QSM_AT(qsm_edition, spcr0, 6, 2); QSM_AT(qsm_edition, spcr1, 8, 2);
+QSM_STRUCT(qsm_editions_changed, 8, 16); QSM_AT(qsm_editions_changed, used, 0, 8); QSM_AT(qsm_editions_changed, refusal, 8, 1);
+QSM_STRUCT(qsm_editions_given, 2, 12); QSM_AT(qsm_editions_given, edition, 0, 10); QSM_AT(qsm_editions_given, refusal, 10, 1);
 #undef QSM_AT
 #undef QSM_STRUCT
 #undef QSM_IS

@@ -56,5 +56,17 @@ int main()
     expect(differ.refusal == QSM_NO_ROOM && differ.count == 0 && list[0] == 9, "one number is too few, and stays");
     differ = qsm_compare(log, 10, other, 21, list, 0);
     expect(differ.refusal == QSM_CUT_RECORD && !differ.second && differ.length == 0, "a cut log is refused first");
+
+    uint8_t kept[25] = {0};
+    const struct qsm_edition plain = {3, 0x0004, 0x000C, 0x8104, 0x0404}, slave = {9, 0x0004, 0x000C, 0x0104, 0x8404};
+    struct qsm_editions_changed change = qsm_editions_add(kept, sizeof kept, 0, plain);
+    expect(change.refusal == QSM_ANSWERED && change.used == QSM_EDITIONS_ADDED && kept[0] == 0x21 && kept[7] == 0x81, "an edition is added");
+    expect(qsm_editions_add(kept, sizeof kept, change.used, plain).refusal == QSM_NO_EDITION, "an edition not above the last is refused");
+    expect(qsm_editions_add(kept, sizeof kept, change.used, slave).refusal == QSM_UNMODELLED, "settings with SPE and without MSTR are refused");
+    expect(qsm_editions_newest(kept, sizeof kept, change.used).edition.spcr0 == 0x8104, "the newest has the settings that were added");
+    change = qsm_editions_withdraw(kept, sizeof kept, change.used, 3);
+    expect(change.refusal == QSM_ANSWERED && change.used == QSM_EDITIONS_ADDED + QSM_EDITIONS_WITHDRAWN, "it is withdrawn");
+    expect(qsm_editions_get(kept, sizeof kept, change.used, 3).refusal == QSM_NO_EDITION, "and not given any more");
+    expect(qsm_editions_get(kept, sizeof kept, 26, 3).refusal == QSM_UNKNOWN_KIND, "zeros are no records");
     return failed;
 }

@@ -1,5 +1,5 @@
-// The C boundary: a module behind a pointer, which the host keeps, the playing of a trace, and the comparing of two logs. `include/qsm.h`
-// declares it.
+// The C boundary: a module behind a pointer, which the host keeps, the playing of a trace, the comparing of two logs, and the keeping of
+// editions. `include/qsm.h` declares it.
 ghost use mathlib.Core.Path.{_≡_};
 ghost use lib.ListN.{length};
 ghost use Rattle.qsm.specs.State.{resetModule};
@@ -8,10 +8,14 @@ ghost use Rattle.host.specs.Host.{Applied, readEvent, writeEvent};
 ghost use Rattle.trace.specs.Play.{play};
 ghost use Rattle.comparison.specs.Answer.{fields};
 ghost use Rattle.comparison.specs.Compare.{compared, inNumbers};
+ghost use Rattle.settings.specs.Editions.{add, withdraw, get, newest, Changes};
 ghost use Rattle.qsm_c.specs.Play.{Plays};
 use comparison::Compared;
 use qsm::event::Answer;
 use qsm::state::Module;
+use settings::Changed;
+use settings::Given;
+use settings::records::Edition;
 
 // The module after a trace, the bytes read and written, and the refusal that stopped it, or 0.
 #[repr(C)]
@@ -115,4 +119,40 @@ pub extern "C" fn qsm_compare<'a>(a: &'a [u8], b: &'a [u8], list: &mut [u64]) ->
     ensures { λ r. ⌜ (now (list .exit) ≡ compared fields (now (a .entry)) (now (b .entry)) (now (list .entry)) .list) × (r ≡ inNumbers (compared fields (now (a .entry)) (now (b .entry)) (now (list .entry)))) ⌝ }
 {
     comparison::compare_numbers(a, b, list)
+}
+
+// An edition added to a buffer.
+// Ruled out: a buffer changed by a refusal; a used length that leaves the new record out.
+#[no_mangle]
+pub extern "C" fn qsm_editions_add(buffer: &mut [u8], used: usize, edition: Edition) -> Changed
+    ensures { λ r. ⌜ Changes (add (now (buffer .entry)) used edition) r (now (buffer .exit)) ⌝ }
+{
+    settings::add(buffer, used, edition)
+}
+
+// An edition withdrawn.
+// Ruled out: an edition withdrawn twice; its record taken out of the buffer.
+#[no_mangle]
+pub extern "C" fn qsm_editions_withdraw(buffer: &mut [u8], used: usize, number: u16) -> Changed
+    ensures { λ r. ⌜ Changes (withdraw (now (buffer .entry)) used number) r (now (buffer .exit)) ⌝ }
+{
+    settings::withdraw(buffer, used, number)
+}
+
+// The edition of a number.
+// Ruled out: a withdrawn edition given; the newest one for any number.
+#[no_mangle]
+pub extern "C" fn qsm_editions_get(buffer: &[u8], used: usize, number: u16) -> Given
+    ensures { λ r. ⌜ r ≡ get (now (buffer .entry)) used number ⌝ }
+{
+    settings::get(buffer, used, number)
+}
+
+// The newest edition.
+// Ruled out: the last one added, though withdrawn; the first one.
+#[no_mangle]
+pub extern "C" fn qsm_editions_newest(buffer: &[u8], used: usize) -> Given
+    ensures { λ r. ⌜ r ≡ newest (now (buffer .entry)) used ⌝ }
+{
+    settings::newest(buffer, used)
 }

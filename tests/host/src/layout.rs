@@ -35,3 +35,6 @@ layout!(Module, 2, 158;
 );
 layout!(Played, 8, 184; state 0, read 160, written 168, stop 176);
 layout!(Compared, 8, 32; count 0, refusal 8, second 9, start 16, length 24);
+layout!(Edition, 2, 10; number 0, sccr0 2, sccr1 4, spcr0 6, spcr1 8);
+layout!(Changed, 8, 16; used 0, refusal 8);
+layout!(Given, 2, 12; edition 0, refusal 10);

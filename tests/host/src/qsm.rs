@@ -146,6 +146,24 @@ c_struct!(Compared {
     length: usize,
 });
 
+c_struct!(Edition {
+    number: u16,
+    sccr0: u16,
+    sccr1: u16,
+    spcr0: u16,
+    spcr1: u16,
+});
+
+c_struct!(Changed {
+    used: usize,
+    refusal: u8,
+});
+
+c_struct!(Given {
+    edition: Edition,
+    refusal: u8,
+});
+
 extern "C" {
     fn qsm_new() -> Module;
     fn qsm_reset(m: *mut Module) -> Answer;
@@ -162,6 +180,10 @@ extern "C" {
         list: *mut u64,
         room: usize,
     ) -> Compared;
+    fn qsm_editions_add(buffer: *mut u8, length: usize, used: usize, edition: Edition) -> Changed;
+    fn qsm_editions_withdraw(buffer: *mut u8, length: usize, used: usize, number: u16) -> Changed;
+    fn qsm_editions_get(buffer: *const u8, length: usize, used: usize, number: u16) -> Given;
+    fn qsm_editions_newest(buffer: *const u8, length: usize, used: usize) -> Given;
 }
 
 impl Default for Module {
@@ -230,6 +252,24 @@ pub fn compare(first: &[u8], second: &[u8], list: &mut [u64]) -> Compared {
             list.len(),
         )
     }
+}
+
+// SAFETY, of the four calls: a slice is what the header asks for.
+
+pub fn editions_add(buffer: &mut [u8], used: usize, edition: Edition) -> Changed {
+    unsafe { qsm_editions_add(buffer.as_mut_ptr(), buffer.len(), used, edition) }
+}
+
+pub fn editions_withdraw(buffer: &mut [u8], used: usize, number: u16) -> Changed {
+    unsafe { qsm_editions_withdraw(buffer.as_mut_ptr(), buffer.len(), used, number) }
+}
+
+pub fn editions_get(buffer: &[u8], used: usize, number: u16) -> Given {
+    unsafe { qsm_editions_get(buffer.as_ptr(), buffer.len(), used, number) }
+}
+
+pub fn editions_newest(buffer: &[u8], used: usize) -> Given {
+    unsafe { qsm_editions_newest(buffer.as_ptr(), buffer.len(), used) }
 }
 
 impl From<Answer> for reference::Answer {

@@ -3,6 +3,7 @@
 //! usage: tools COMMAND [ARGUMENT..]
 
 mod compare;
+mod editions;
 mod figures;
 mod play;
 
@@ -36,7 +37,8 @@ fn run(words: &[&str]) -> Printed {
             compare::compare(&file(first)?, &file(second)?, number(room)?)
         }
         ["figures"] => figures::figures(),
-        _ => Err("usage: tools play [ROOM] | compare FILE_A FILE_B ROOM | figures".into()),
+        ["editions"] => editions::editions(),
+        _ => Err("usage: tools play [ROOM] | compare FILE_A FILE_B ROOM | figures | editions".into()),
     }
 }
 
