@@ -1,0 +1,4 @@
+pub mod Each
+pub mod Meaning
+pub mod Counts
+pub mod Verdict

@@ -1,0 +1,36 @@
+-- Set-points and plans that the laws speak of: two set-points, of 8 and of 12 bits.
+use mathlib.Core.Path.{_≡_}
+use mathlib.Core.Bool.{true, false}
+use mathlib.Core.List.{_∷_}
+use lib.ListN.{replicate}
+use Rattle.planner.specs.Check.{accepts}
+use Rattle.planner.specs.declared.SetPoints.{SetPoints}
+use Rattle.planner.specs.declared.Plan.{Plan}
+
+abbrev pub points : SetPoints
+points =
+    record {
+      count = 2;
+      selects = 3 ∷ 9 ∷ replicate 14 0;
+      bits = 8 ∷ 12 ∷ replicate 14 0;
+      words = 0x5A ∷ 0xABC ∷ replicate 14 0;
+    }
+
+-- SPBR 4, plain delays, CPHA 1, in entries 15 and 0; CONT in the first.
+abbrev pub byHand : Plan
+byHand =
+    record {
+      clock = 177;
+      spcr0 = 0xB104;
+      spcr1 = 0x8404;
+      spcr2 = 0;
+      count = 2;
+      first = 15;
+      last = 0;
+      commands = 0x83 ∷ 0x49 ∷ replicate 14 0;
+      words = 0x5A ∷ 0xABC ∷ replicate 14 0;
+    }
+
+pub record Example : Type 0 where
+  pub accepted : accepts points 177 byHand ≡ true
+  pub too-late : accepts points 176 byHand ≡ false

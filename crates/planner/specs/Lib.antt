@@ -1,0 +1,4 @@
+pub mod Check
+pub mod Accepted
+pub mod Example
+pub mod Shown
