@@ -4,6 +4,7 @@ use mathlib.Core.Bool.{true, false}
 use mathlib.Core.List.{_∷_}
 use lib.ListN.{replicate}
 use Rattle.planner.specs.Check.{accepts}
+use Rattle.planner.specs.Quickest.{noPlan, planned}
 use Rattle.planner.specs.declared.SetPoints.{SetPoints}
 use Rattle.planner.specs.declared.Plan.{Plan}
 
@@ -34,3 +35,5 @@ byHand =
 pub record Example : Type 0 where
   pub accepted : accepts points 177 byHand ≡ true
   pub too-late : accepts points 176 byHand ≡ false
+  pub planned-at : (planned points 95 .refusal ≡ 0) × (planned points 95 .plan .clock ≡ 95)
+  pub no-plan : planned points 94 ≡ noPlan

@@ -1,8 +1,14 @@
--- All that is shown of the checker.
+-- All that is shown of the checker and the planner.
 use Rattle.planner.specs.Accepted.{Means, CountsAgree}
+use Rattle.planner.specs.Laws.{Sound, Complete, Refuses, Least, AnyWindow}
 use Rattle.planner.specs.Example.{Example}
 
 pub record Shown : Type 0 where
   pub means : Means
   pub counts-agree : CountsAgree
+  pub sound : Sound
+  pub complete : Complete
+  pub refuses : Refuses
+  pub least : Least
+  pub any-window : AnyWindow
   pub example : Example

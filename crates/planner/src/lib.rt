@@ -1,11 +1,12 @@
-// Set-points packed into the queue: a plan of entries, pointers and registers with the clock of its last edge, and a checker that says
-// what a plan is.
+// Set-points packed into the queue: a plan of entries, pointers and registers with the clock of its last edge; a checker that says what a
+// plan is, and a planner that proposes the quickest.
 ghost use mathlib.Core.Path.{_≡_};
 ghost use Prim.Native.Nat.{_^_, _≤_, _<_};
 ghost use Rattle.planner.specs.Check.{each, inRange, ranged, proper, carries, carried, pointed, allowed, clockBefore, lastEdge, accepts};
 ghost use Rattle.qspi.specs.Run.{lastClockOf, lengthOf};
 
 mod claims;
+pub mod quickest;
 
 use qspi::fields::bits_of;
 use qspi::fields::delay_after;
@@ -38,6 +39,13 @@ pub struct Plan {
     pub last: u8,
     pub commands: [u8; 16],
     pub words: [u16; 16],
+}
+
+// What the planner answers: a plan, or refusal 11 and a plan of zeros.
+#[repr(C)]
+pub struct Planned {
+    pub plan: Plan,
+    pub refusal: u8,
 }
 
 // ---- the checker
