@@ -6,3 +6,14 @@ pub mod Least
 pub mod Outcome
 pub mod Proposal
 pub mod Planning
+pub mod Writing
+pub mod Bytes
+pub mod Loaded
+pub mod Started
+pub mod Held
+pub mod Clocking
+pub mod AtEntry
+pub mod Sending
+pub mod Resting
+pub mod Doing
+pub mod Meeting

@@ -1,10 +1,14 @@
--- Set-points and plans that the laws speak of: two set-points, of 8 and of 12 bits.
+-- Set-points, plans, a module and a hold that the laws speak of: two set-points, of 8 and of 12 bits.
 use mathlib.Core.Path.{_≡_}
 use mathlib.Core.Bool.{true, false}
-use mathlib.Core.List.{_∷_}
+use mathlib.Core.List.{[], _∷_}
 use lib.ListN.{replicate}
+use Rattle.qsm.specs.State.{resetModule}
+use Rattle.qsm.specs.declared.state.Module.{Module}
 use Rattle.planner.specs.Check.{accepts}
 use Rattle.planner.specs.Quickest.{noPlan, planned}
+use Rattle.planner.specs.Loading.{writing}
+use Rattle.planner.specs.Running.{played, Span, NoFault, Ready, Sized}
 use Rattle.planner.specs.declared.SetPoints.{SetPoints}
 use Rattle.planner.specs.declared.Plan.{Plan}
 
@@ -32,8 +36,18 @@ byHand =
       words = 0x5A ∷ 0xABC ∷ replicate 14 0;
     }
 
+-- Since a reset: MOSI, SCK and the PCS assigned outputs.
+abbrev pub set-up : Module
+set-up = played (writing 2 0x16 0x7A7E ∷ []) resetModule
+
+abbrev pub hold : Span
+hold = record { pins = 0; rxd = true; clocks = 177 }
+
 pub record Example : Type 0 where
   pub accepted : accepts points 177 byHand ≡ true
   pub too-late : accepts points 176 byHand ≡ false
   pub planned-at : (planned points 95 .refusal ≡ 0) × (planned points 95 .plan .clock ≡ 95)
   pub no-plan : planned points 94 ≡ noPlan
+  pub sized : Sized byHand
+  pub ready : Ready set-up
+  pub no-fault : NoFault set-up (hold ∷ [])

@@ -1,6 +1,7 @@
--- All that is shown of the checker and the planner.
+-- All that is shown of plans.
 use Rattle.planner.specs.Accepted.{Means, CountsAgree}
 use Rattle.planner.specs.Laws.{Sound, Complete, Refuses, Least, AnyWindow}
+use Rattle.planner.specs.Running.{DoesWhatItSays}
 use Rattle.planner.specs.Example.{Example}
 
 pub record Shown : Type 0 where
@@ -11,4 +12,5 @@ pub record Shown : Type 0 where
   pub refuses : Refuses
   pub least : Least
   pub any-window : AnyWindow
+  pub does-what-it-says : DoesWhatItSays
   pub example : Example

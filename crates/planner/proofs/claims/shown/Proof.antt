@@ -1,17 +1,11 @@
 use mathlib.Core.Path.{refl}
-use Rattle.qspi.specs.Fields.{bitsOf, preDelay, delayAfter}
-use Rattle.planner.specs.Check.{each, proper, clockBefore, accepts}
-use Rattle.planner.specs.Quickest.{commandsOf, otherCount, proposal, planned}
-use Rattle.planner.specs.Example.{Example}
 use Rattle.planner.proofs.Meaning.{means}
 use Rattle.planner.proofs.Counts.{counts-agree}
 use Rattle.planner.proofs.Planning.{sound, complete, refuses, least, any-window}
+use Rattle.planner.proofs.Doing.{does-what-it-says}
+use Rattle.planner.proofs.Meeting.{example}
 use Rattle.planner.proofs.claims.shown.Statement.{statement}
 use Rattle.planner.proofs.claims.shown.Tie as tie
-
-example : Example
-unfolding each proper clockBefore accepts commandsOf otherCount proposal planned bitsOf preDelay delayAfter
-example = record { accepted = refl; too-late = refl; planned-at = (refl, refl); no-plan = refl }
 
 returns : tie.Need-returns
 returns c = (
@@ -24,6 +18,7 @@ returns c = (
     refuses = refuses;
     least = least;
     any-window = any-window;
+    does-what-it-says = does-what-it-says;
     example = example;
   },
 )
