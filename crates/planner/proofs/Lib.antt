@@ -17,3 +17,4 @@ pub mod Sending
 pub mod Resting
 pub mod Doing
 pub mod Meeting
+pub mod InOrder

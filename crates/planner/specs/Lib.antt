@@ -3,6 +3,7 @@ pub mod Accepted
 pub mod Quickest
 pub mod Laws
 pub mod Loading
+pub mod Writes
 pub mod Running
 pub mod Example
 pub mod Shown

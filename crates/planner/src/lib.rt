@@ -6,6 +6,7 @@ ghost use Rattle.planner.specs.Check.{each, inRange, ranged, proper, car
 ghost use Rattle.qspi.specs.Run.{lastClockOf, lengthOf};
 
 mod claims;
+pub mod load;
 pub mod quickest;
 
 use qspi::fields::bits_of;
