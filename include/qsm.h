@@ -1,6 +1,6 @@
 /*
- * Motorola's queued serial module (QSM), as a struct that a host keeps and changes by six functions; a tool for its logs, qsm_compare; and register settings by edition,
- * qsm_editions_add and three more.
+ * Motorola's queued serial module (QSM), as a struct that a host keeps and changes by six functions; a tool for its logs, qsm_compare; register settings
+ * by edition, qsm_editions_add and three more; and plans of its queue, qsm_plan.
  *
  * For C11 and C++11 on x86-64. The archive is made by `rt staticlib qsm_c`; link target/staticlib/libqsm_c.a.
  *
@@ -41,7 +41,8 @@ enum qsm_refusal {
     QSM_CUT_RECORD = 6,   /* trace: a record cut by the end; compare: a length that is no multiple of 10; editions: the used length cuts a
                              record or passes the buffer's end */
     QSM_NO_ROOM = 7,      /* trace: fewer than 10 bytes left of the log; compare: the list is too short; editions: 64 records, or no room */
-    QSM_NO_EDITION = 8    /* editions: one to add that is not above the last, one to withdraw or to get that is not there */
+    QSM_NO_EDITION = 8,   /* editions: one to add that is not above the last, one to withdraw or to get that is not there */
+    QSM_NO_PLAN = 11      /* plan: there is none for these set-points in this window */
 };
 
 /* Offsets of the registers from the module's base. Words are big-endian. */
@@ -226,6 +227,37 @@ struct qsm_editions_given {
     uint8_t refusal;            /* QSM_UNKNOWN_KIND, QSM_CUT_RECORD, QSM_NO_EDITION; else QSM_ANSWERED */
 };
 
+/* Set-points for the queue in order, of which the first `count` are meant, from 1 to 16. */
+struct qsm_set_points {
+    uint8_t count;
+    uint8_t selects[16]; /* chip select, 0 to 15 */
+    uint8_t bits[16];    /* 8 to 16 */
+    uint16_t words[16];  /* not too big for its bits */
+};
+
+/* A plan: entries from the first pointer on, of which the first `count` are meant, registers, and the clock of the last edge. */
+struct qsm_queue_plan {
+    uint64_t clock;
+    uint16_t spcr0, spcr1;
+    uint16_t spcr2; /* its NEWQP and ENDQP don't count: loading puts `first` and `last` in */
+    uint8_t count;
+    uint8_t first, last;
+    uint8_t commands[16];
+    uint16_t words[16];
+};
+
+struct qsm_planned {
+    struct qsm_queue_plan plan; /* zeros where it is refused */
+    uint8_t refusal;            /* QSM_NO_PLAN; else QSM_ANSWERED */
+};
+
+/* A write for the host to make as supervisor. */
+struct qsm_plan_put {
+    uint32_t value;
+    uint16_t offset;
+    uint8_t width; /* 0: none */
+};
+
 /* A module fresh from reset. */
 struct qsm qsm_new(void);
 
@@ -282,6 +314,22 @@ struct qsm_editions_changed qsm_editions_withdraw(uint8_t *buffer, size_t length
 struct qsm_editions_given qsm_editions_get(const uint8_t *buffer, size_t length, size_t used, uint16_t number);
 struct qsm_editions_given qsm_editions_newest(const uint8_t *buffer, size_t length, size_t used);
 
+/*
+ * The quickest plan that sends set-points within a window of system clocks, counted from the first entry's clock 1 to the last edge; or
+ * QSM_NO_PLAN, where there is none at all. Counts of bits other than 8 must agree.
+ */
+struct qsm_planned qsm_plan(struct qsm_set_points points, uint64_t window);
+
+/*
+ * Whether a plan, whoever made it, carries these set-points within this window. One that is accepted, loaded with SPE and SPIF clear and
+ * run with MOSI an assigned output and no mode fault, HALT, reset or write, sends the words and raises SPIF at exactly its clock.
+ */
+bool qsm_plan_accepts(struct qsm_set_points points, uint64_t window, struct qsm_queue_plan plan);
+
+/* The writes that load a plan: how many, and each by its number from 0, in order; the last, of SPCR1, starts the queue. */
+uint16_t qsm_plan_writes(struct qsm_queue_plan plan);
+struct qsm_plan_put qsm_plan_write(struct qsm_queue_plan plan, uint16_t number);
+
 #ifdef __cplusplus
 }
 #endif
@@ -334,6 +382,15 @@ QSM_STRUCT(qsm_edition, 2, 10); QSM_AT(qsm_edition, number, 0, 2); QSM_AT(qsm_ed
 QSM_AT(qsm_edition, spcr0, 6, 2); QSM_AT(qsm_edition, spcr1, 8, 2);
 QSM_STRUCT(qsm_editions_changed, 8, 16); QSM_AT(qsm_editions_changed, used, 0, 8); QSM_AT(qsm_editions_changed, refusal, 8, 1);
 QSM_STRUCT(qsm_editions_given, 2, 12); QSM_AT(qsm_editions_given, edition, 0, 10); QSM_AT(qsm_editions_given, refusal, 10, 1);
+QSM_STRUCT(qsm_set_points, 2, 66); QSM_AT(qsm_set_points, count, 0, 1); QSM_AT(qsm_set_points, selects, 1, 16);
+QSM_AT(qsm_set_points, bits, 17, 16); QSM_AT(qsm_set_points, words, 34, 32);
+QSM_STRUCT(qsm_queue_plan, 8, 72); QSM_AT(qsm_queue_plan, clock, 0, 8); QSM_AT(qsm_queue_plan, spcr0, 8, 2);
+QSM_AT(qsm_queue_plan, spcr1, 10, 2); QSM_AT(qsm_queue_plan, spcr2, 12, 2); QSM_AT(qsm_queue_plan, count, 14, 1);
+QSM_AT(qsm_queue_plan, first, 15, 1); QSM_AT(qsm_queue_plan, last, 16, 1); QSM_AT(qsm_queue_plan, commands, 17, 16);
+QSM_AT(qsm_queue_plan, words, 34, 32);
+QSM_STRUCT(qsm_planned, 8, 80); QSM_AT(qsm_planned, plan, 0, 72); QSM_AT(qsm_planned, refusal, 72, 1);
+QSM_STRUCT(qsm_plan_put, 4, 8); QSM_AT(qsm_plan_put, value, 0, 4); QSM_AT(qsm_plan_put, offset, 4, 2);
+QSM_AT(qsm_plan_put, width, 6, 1);
 #undef QSM_AT
 #undef QSM_STRUCT
 #undef QSM_IS

@@ -68,5 +68,15 @@ int main()
     expect(change.refusal == QSM_ANSWERED && change.used == QSM_EDITIONS_ADDED + QSM_EDITIONS_WITHDRAWN, "it is withdrawn");
     expect(qsm_editions_get(kept, sizeof kept, change.used, 3).refusal == QSM_NO_EDITION, "and not given any more");
     expect(qsm_editions_get(kept, sizeof kept, 26, 3).refusal == QSM_UNKNOWN_KIND, "zeros are no records");
+
+    struct qsm_set_points points = {2, {3, 9}, {8, 12}, {0x5A, 0xABC}};
+    struct qsm_planned planned = qsm_plan(points, 95);
+    expect(planned.refusal == QSM_ANSWERED && planned.plan.clock == 95, "the quickest plan of two set-points takes 95 clocks");
+    expect(qsm_plan_accepts(points, 95, planned.plan), "it is accepted");
+    expect(qsm_plan(points, 94).refusal == QSM_NO_PLAN, "94 clocks are too few");
+    planned.plan.words[1] ^= 1;
+    expect(!qsm_plan_accepts(points, 95, planned.plan), "another word is not accepted");
+    uint16_t last = qsm_plan_writes(planned.plan);
+    expect(last == 7 && qsm_plan_write(planned.plan, 6).offset == QSM_SPCR1 && qsm_plan_write(planned.plan, 7).width == 0, "SPCR1 is the last of seven writes");
     return failed;
 }

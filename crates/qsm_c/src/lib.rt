@@ -1,5 +1,5 @@
-// The C boundary: a module behind a pointer, which the host keeps, the playing of a trace, the comparing of two logs, and the keeping of
-// editions. `include/qsm.h` declares it.
+// The C boundary: a module behind a pointer, which the host keeps, the playing of a trace, the comparing of two logs, the keeping of
+// editions, and plans of the queue. `include/qsm.h` declares it.
 ghost use mathlib.Core.Path.{_≡_};
 ghost use lib.ListN.{length};
 ghost use Rattle.qsm.specs.State.{resetModule};
@@ -8,9 +8,16 @@ ghost use Rattle.host.specs.Host.{Applied, readEvent, writeEvent};
 ghost use Rattle.trace.specs.Play.{play};
 ghost use Rattle.comparison.specs.Answer.{fields};
 ghost use Rattle.comparison.specs.Compare.{compared, inNumbers};
+ghost use Rattle.planner.specs.Check.{accepts};
+ghost use Rattle.planner.specs.Quickest.{planned};
+ghost use Rattle.planner.specs.Writes.{writeNo, writesOf};
 ghost use Rattle.settings.specs.Editions.{add, withdraw, get, newest, Changes};
 ghost use Rattle.qsm_c.specs.Play.{Plays};
 use comparison::Compared;
+use planner::Plan;
+use planner::Planned;
+use planner::SetPoints;
+use planner::load::HostWrite;
 use qsm::event::Answer;
 use qsm::state::Module;
 use settings::Changed;
@@ -155,4 +162,40 @@ pub extern "C" fn qsm_editions_newest(buffer: &[u8], used: usize) -> Given
     ensures { λ r. ⌜ r ≡ newest (now (buffer .entry)) used ⌝ }
 {
     settings::newest(buffer, used)
+}
+
+// The quickest plan for set-points in a window, or refusal 11.
+// Ruled out: a refusal where some plan is accepted; a plan past the window.
+#[no_mangle]
+pub extern "C" fn qsm_plan(points: SetPoints, window: u64) -> Planned
+    ensures { λ r. ⌜ r ≡ planned points window ⌝ }
+{
+    planner::quickest::plan(points, window)
+}
+
+// Whether a plan is one for set-points and a window, whoever made it.
+// Ruled out: a word out of order accepted; a clock that isn't the last edge's accepted.
+#[no_mangle]
+pub extern "C" fn qsm_plan_accepts(points: SetPoints, window: u64, plan: Plan) -> bool
+    ensures { λ r. ⌜ r ≡ accepts points window plan ⌝ }
+{
+    planner::accepts(points, window, plan)
+}
+
+// How many writes load a plan.
+// Ruled out: SPCR1 left out; two for each of sixteen entries whatever the plan has.
+#[no_mangle]
+pub extern "C" fn qsm_plan_writes(plan: Plan) -> u16
+    ensures { λ r. ⌜ r ≡ writesOf plan ⌝ }
+{
+    planner::load::writes(plan)
+}
+
+// Write number i of them, in order, SPCR1 last; width 0 past it.
+// Ruled out: SPCR1 before the last entry; the pointers of the plan's own SPCR2.
+#[no_mangle]
+pub extern "C" fn qsm_plan_write(plan: Plan, i: u16) -> HostWrite
+    ensures { λ r. ⌜ r ≡ writeNo plan i ⌝ }
+{
+    planner::load::write(plan, i)
 }

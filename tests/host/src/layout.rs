@@ -38,3 +38,9 @@ layout!(Compared, 8, 32; count 0, refusal 8, second 9, start 16, length 24);
 layout!(Edition, 2, 10; number 0, sccr0 2, sccr1 4, spcr0 6, spcr1 8);
 layout!(Changed, 8, 16; used 0, refusal 8);
 layout!(Given, 2, 12; edition 0, refusal 10);
+layout!(SetPoints, 2, 66; count 0, selects 1, bits 17, words 34);
+layout!(Plan, 8, 72;
+    clock 0, spcr0 8, spcr1 10, spcr2 12, count 14, first 15, last 16, commands 17, words 34,
+);
+layout!(Planned, 8, 80; plan 0, refusal 72);
+layout!(Put, 4, 8; value 0, offset 4, width 6);

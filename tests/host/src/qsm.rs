@@ -164,6 +164,36 @@ c_struct!(Given {
     refusal: u8,
 });
 
+c_struct!(SetPoints {
+    count: u8,
+    selects: [u8; 16],
+    bits: [u8; 16],
+    words: [u16; 16],
+});
+
+c_struct!(Plan {
+    clock: u64,
+    spcr0: u16,
+    spcr1: u16,
+    spcr2: u16,
+    count: u8,
+    first: u8,
+    last: u8,
+    commands: [u8; 16],
+    words: [u16; 16],
+});
+
+c_struct!(Planned {
+    plan: Plan,
+    refusal: u8,
+});
+
+c_struct!(Put {
+    value: u32,
+    offset: u16,
+    width: u8,
+});
+
 extern "C" {
     fn qsm_new() -> Module;
     fn qsm_reset(m: *mut Module) -> Answer;
@@ -184,6 +214,10 @@ extern "C" {
     fn qsm_editions_withdraw(buffer: *mut u8, length: usize, used: usize, number: u16) -> Changed;
     fn qsm_editions_get(buffer: *const u8, length: usize, used: usize, number: u16) -> Given;
     fn qsm_editions_newest(buffer: *const u8, length: usize, used: usize) -> Given;
+    fn qsm_plan(points: SetPoints, window: u64) -> Planned;
+    fn qsm_plan_accepts(points: SetPoints, window: u64, plan: Plan) -> bool;
+    fn qsm_plan_writes(plan: Plan) -> u16;
+    fn qsm_plan_write(plan: Plan, number: u16) -> Put;
 }
 
 impl Default for Module {
@@ -270,6 +304,25 @@ pub fn editions_get(buffer: &[u8], used: usize, number: u16) -> Given {
 
 pub fn editions_newest(buffer: &[u8], used: usize) -> Given {
     unsafe { qsm_editions_newest(buffer.as_ptr(), buffer.len(), used) }
+}
+
+pub fn plan(points: SetPoints, window: u64) -> Planned {
+    // SAFETY: numbers alone.
+    unsafe { qsm_plan(points, window) }
+}
+
+pub fn accepts(points: SetPoints, window: u64, plan: Plan) -> bool {
+    // SAFETY: numbers alone.
+    unsafe { qsm_plan_accepts(points, window, plan) }
+}
+
+/// The writes that load a plan, in order.
+pub fn writes(plan: Plan) -> Vec<Put> {
+    // SAFETY: numbers alone.
+    let count = unsafe { qsm_plan_writes(plan) };
+    (0..count)
+        .map(|number| unsafe { qsm_plan_write(plan, number) })
+        .collect()
 }
 
 impl From<Answer> for reference::Answer {

@@ -5,6 +5,7 @@
 mod compare;
 mod editions;
 mod figures;
+mod plan;
 mod play;
 
 use std::io::{self, Read, Write};
@@ -25,6 +26,11 @@ pub fn standard_input() -> Result<Vec<u8>, String> {
     Ok(bytes)
 }
 
+/// Standard input as text.
+fn text() -> Result<String, String> {
+    String::from_utf8(standard_input()?).map_err(|e| format!("standard input: {e}"))
+}
+
 pub fn number(word: &str) -> Result<usize, String> {
     word.parse().map_err(|_| format!("no number: {word}"))
 }
@@ -38,7 +44,9 @@ fn run(words: &[&str]) -> Printed {
         }
         ["figures"] => figures::figures(),
         ["editions"] => editions::editions(),
-        _ => Err("usage: tools play [ROOM] | compare FILE_A FILE_B ROOM | figures | editions".into()),
+        ["check"] => plan::check(&text()?),
+        ["plan"] => plan::plan(&text()?),
+        _ => Err("usage: tools play [ROOM] | compare FILE_A FILE_B ROOM | figures | editions | check | plan".into()),
     }
 }
 
