@@ -1,0 +1,156 @@
+// What is asked for, from the words of the command.
+ghost use Prim.Native.Nat.{_≤_};
+use files::command::word;
+use settings::records::Edition;
+use text::number::Number;
+use text::number::parse_number;
+
+pub enum Verb {
+    Add(Edition),
+    Withdraw(u16),
+    Get(u16),
+    Newest,
+    List,
+    Unknown,
+}
+
+enum Word {
+    Is(u16),
+    NoWord,
+}
+
+// The value of a hexadecimal digit; 16 for what is none.
+fn hex_value(b: u8) -> u32
+    ensures { λ r. ⌜ r ≤ 16 ⌝ }
+{
+    match b {
+        48..=57 => (b - 48) as u32,
+        65..=70 => (b - 55) as u32,
+        97..=102 => (b - 87) as u32,
+        _ => 16,
+    }
+}
+
+// A register: four hexadecimal digits.
+fn register_of(word: &[u8]) -> Word {
+    if word.len() != 4 {
+        return Word::NoWord;
+    }
+    let a = hex_value(word[0]);
+    let b = hex_value(word[1]);
+    let c = hex_value(word[2]);
+    let d = hex_value(word[3]);
+    if (a > 15) | (b > 15) | (c > 15) | (d > 15) {
+        return Word::NoWord;
+    }
+    Word::Is(((a * 4096 + b * 256 + c * 16 + d) % 65536) as u16)
+}
+
+// An edition's number, in decimal.
+fn number_of(word: &[u8]) -> Word {
+    match parse_number(word) {
+        Number::Is(n) => {
+            if n < 65536 {
+                return Word::Is((n % 65536) as u16);
+            }
+            Word::NoWord
+        }
+        Number::NoNumber => Word::NoWord,
+    }
+}
+
+fn register(k: usize) -> Word {
+    let mut buf = io::buffer();
+    let n = word(k, &mut buf);
+    register_of(&buf[..n])
+}
+
+fn number() -> Word {
+    let mut buf = io::buffer();
+    let n = word(2, &mut buf);
+    number_of(&buf[..n])
+}
+
+fn edition(n: u16) -> Verb {
+    let Word::Is(sccr0) = register(3) else {
+        return Verb::Unknown;
+    };
+    let Word::Is(sccr1) = register(4) else {
+        return Verb::Unknown;
+    };
+    let Word::Is(spcr0) = register(5) else {
+        return Verb::Unknown;
+    };
+    let Word::Is(spcr1) = register(6) else {
+        return Verb::Unknown;
+    };
+    Verb::Add(Edition {
+        number: n,
+        sccr0,
+        sccr1,
+        spcr0,
+        spcr1,
+    })
+}
+
+// The verbs of two words, of three and of seven.
+fn short(name: &[u8]) -> Verb {
+    if check::same(name, b"newest") {
+        return Verb::Newest;
+    }
+    if check::same(name, b"list") {
+        return Verb::List;
+    }
+    Verb::Unknown
+}
+
+fn numbered(name: &[u8], n: u16) -> Verb {
+    if check::same(name, b"withdraw") {
+        return Verb::Withdraw(n);
+    }
+    if check::same(name, b"get") {
+        return Verb::Get(n);
+    }
+    Verb::Unknown
+}
+
+fn long(name: &[u8], n: u16) -> Verb {
+    if check::same(name, b"add") {
+        return edition(n);
+    }
+    Verb::Unknown
+}
+
+fn by_words(name: &[u8], words: usize) -> Verb {
+    if words == 2 {
+        return short(name);
+    }
+    let Word::Is(n) = number() else {
+        return Verb::Unknown;
+    };
+    if words == 3 {
+        return numbered(name, n);
+    }
+    if words == 7 {
+        return long(name, n);
+    }
+    Verb::Unknown
+}
+
+// What the command asks for, with so many words; Unknown where it is not understood.
+pub fn asked(words: usize) -> Verb {
+    let mut buf = io::buffer();
+    let n = word(1, &mut buf);
+    by_words(&buf[..n], words)
+}
+
+pub fn adds(v: Verb) -> bool {
+    match v {
+        Verb::Add(_) => true,
+        Verb::Withdraw(_) => false,
+        Verb::Get(_) => false,
+        Verb::Newest => false,
+        Verb::List => false,
+        Verb::Unknown => false,
+    }
+}
