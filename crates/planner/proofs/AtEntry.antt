@@ -1,14 +1,13 @@
 -- The queue of a loaded plan where entry k is to begin. Assumes nothing.
-use mathlib.Core.Path.{_≡_, refl, sym, ap, subst, _∙_}
-use mathlib.Core.Bool.{Bool, true, false, not, _||_}
-use Prim.Native.Nat.{ℕ, suc, _+_, _%_, _≤_, _<_}
+use mathlib.Core.Path.{_≡_, ap, subst, _∙_}
+use mathlib.Core.Bool.{true, false}
+use Prim.Native.Nat.{ℕ, suc, _+_, _%_, _<_}
 use native.Mathlib.Omega.{arith}
-use lib.Dec.{eqb}
 use lib.ListN.{getD}
 use borrow.Author.Tests.{ne-eqb}
-use Rattle.qspi.specs.Fields.{wren, endqp, halt}
+use Rattle.qspi.specs.Fields.{endqp, halt}
 use Rattle.qspi.specs.Queue.{entryAt, begun}
-use Rattle.qspi.specs.Run.{run, beginsAt}
+use Rattle.qspi.specs.Run.{run}
 use Rattle.qspi.specs.Run as queue
 use Rattle.qspi.specs.Laws.{Starting, Calm, Before, goesOn}
 use Rattle.qspi.specs.declared.Qspi.{Qspi}

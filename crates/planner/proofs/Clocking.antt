@@ -1,15 +1,13 @@
 -- The clocks of a loaded plan are those of the queue that runs it; SPIF rises at the last. Assumes nothing.
-use mathlib.Core.Path.{_≡_, refl, sym, ap, subst, _∙_}
-use mathlib.Core.Bool.{Bool, true, false}
+use mathlib.Core.Path.{_≡_, refl, sym, subst, _∙_}
+use mathlib.Core.Bool.{true, false}
 use mathlib.Core.List.{List}
-use Prim.Native.Nat.{ℕ, zero, suc, _+_, _-_, _%_, _≤_, _<_}
+use Prim.Native.Nat.{ℕ, zero, suc, _+_, _-_, _≤_, _<_}
 use native.Mathlib.Omega.{arith}
 use lib.Dec.{leb, ltb}
-use lib.ListN.{getD}
 use borrow.Author.Tests.{leb-true, leb-false, lt-ltb, le-ltb}
 use Rattle.qspi.specs.Fields.{spe}
-use Rattle.qspi.specs.Queue.{entryAt}
-use Rattle.qspi.specs.Run.{run, lengthOf, lastClockOf, beginsAt, entriesBefore, endsAt}
+use Rattle.qspi.specs.Run.{run, beginsAt, entriesBefore, endsAt}
 use Rattle.qspi.specs.Run as queue
 use Rattle.qspi.specs.Laws.{Calm, QueueOver}
 use Rattle.qspi.specs.declared.Qspi.{Qspi}
@@ -18,9 +16,8 @@ use Rattle.qspi.proofs.Order.{last-of-queue}
 use Rattle.qspi.proofs.Sooner.{not-sooner}
 use Rattle.qspi.proofs.Still.{still-on, still-low}
 use Rattle.qsm.proofs.Booleans.{on, clash}
-use Rattle.planner.specs.Check.{commandNo, clockBefore, lastEdge}
+use Rattle.planner.specs.Check.{commandNo, clockBefore}
 use Rattle.planner.specs.Accepted.{Accepted}
-use Rattle.planner.specs.Loading.{placeNo}
 use Rattle.planner.specs.Running.{startOf}
 use Rattle.planner.specs.declared.SetPoints.{SetPoints}
 use Rattle.planner.specs.declared.Plan.{Plan}

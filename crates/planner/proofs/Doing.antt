@@ -1,5 +1,5 @@
 -- An accepted plan does what it says: loaded and held, by the module's pins. Assumes nothing.
-use mathlib.Core.Path.{_≡_, refl, sym, ap, subst, _∙_}
+use mathlib.Core.Path.{_≡_, sym, ap, subst, _∙_}
 use mathlib.Core.Bool.{Bool, true, false}
 use mathlib.Core.List.{List, [], _∷_}
 use Prim.Native.Nat.{ℕ, suc, _+_, _-_, _*_, _≤_, _<_}
@@ -10,7 +10,7 @@ use Rattle.steps.specs.Bits.{bit}
 use Rattle.steps.specs.Iterate.{iterate}
 use Rattle.qspi.specs.Fields.{cpol, cpha, spe}
 use Rattle.qspi.specs.Outputs.{sck}
-use Rattle.qspi.specs.Run.{run, bitShown}
+use Rattle.qspi.specs.Run.{run}
 use Rattle.qspi.specs.Laws.{Calm}
 use Rattle.qspi.specs.declared.Qspi.{Qspi}
 use Rattle.qspi.specs.declared.Pins.{Pins}
@@ -20,10 +20,10 @@ use Rattle.qsm.specs.declared.state.Module.{Module}
 use Rattle.qsm.specs.declared.event.Event.the-variants.{Hold}
 use Rattle.qsm.proofs.PinClauses.{pins}
 use Rattle.qsm.proofs.Reading.{spcr1-read}
-use Rattle.planner.specs.Check.{selectNo, bitsNo, wordNo}
+use Rattle.planner.specs.Check.{bitsNo, wordNo}
 use Rattle.planner.specs.Accepted.{Accepted}
 use Rattle.planner.specs.Loading.{loading}
-use Rattle.planner.specs.Running.{played, Span, holding, total, ran, NoFault, Ready, Sized, startOf, edgeNo, Within, readIn, Does, DoesWhatItSays}
+use Rattle.planner.specs.Running.{played, Span, total, ran, NoFault, Ready, Sized, startOf, edgeNo, Within, readIn, Does, DoesWhatItSays}
 use Rattle.planner.specs.declared.SetPoints.{SetPoints}
 use Rattle.planner.specs.declared.Plan.{Plan}
 use Rattle.planner.proofs.Meaning.{means}

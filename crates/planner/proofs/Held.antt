@@ -1,6 +1,6 @@
 -- Holds in a row are a run of the queue, under the pins that each clock finds. Assumes nothing.
 use mathlib.Core.Path.{_≡_, refl, sym, ap, _∙_}
-use mathlib.Core.Bool.{Bool, true, false, cond, not, _&&_, and-false}
+use mathlib.Core.Bool.{cond, not, _&&_, and-false}
 use mathlib.Core.List.{List, [], _∷_}
 use Prim.Native.Nat.{ℕ, zero, suc, _+_, _-_, _≤_, _<_}
 use native.Mathlib.Omega.{arith}
@@ -9,7 +9,7 @@ use borrow.Author.Tests.{le-leb, lt-leb}
 use Rattle.steps.specs.Bits.{bit}
 use Rattle.steps.specs.Iterate.{iterate}
 use Rattle.sci.specs.Serial.{clocked}
-use Rattle.qspi.specs.Queue.{selected, clock}
+use Rattle.qspi.specs.Queue.{clock}
 use Rattle.qspi.specs.Run.{run}
 use Rattle.qspi.specs.Laws.{Calm}
 use Rattle.qspi.specs.declared.Qspi.{Qspi}

@@ -1,14 +1,13 @@
 -- The numbered writes in order. Assumes nothing.
 use mathlib.Core.Path.{_≡_, refl, sym, ap, _∙_}
-use mathlib.Core.Bool.{true, false, cond}
+use mathlib.Core.Bool.{true, false}
 use mathlib.Core.List.{List, [], _∷_, _++_, append-assoc}
-use Prim.Native.Nat.{ℕ, zero, suc, _+_, _-_, _*_, _/_, _%_, _≤_, _<_, min}
+use Prim.Native.Nat.{ℕ, zero, suc, _+_, _-_, _*_, _/_, _%_, _≤_, _<_}
 use native.Mathlib.Omega.{arith}
-use lib.Dec.{eqb, leb}
 use borrow.Author.Tests.{le-leb, lt-leb}
 use Rattle.qsm.specs.declared.event.Event.{Event}
-use Rattle.planner.specs.Loading.{writing, entryWrites, entriesWritten, registersWritten, loading}
-use Rattle.planner.specs.Writes.{entriesOf, writesOf, entryWrite, registerWrite, writeNo, firstWrites, InOrder}
+use Rattle.planner.specs.Loading.{writing, entriesWritten}
+use Rattle.planner.specs.Writes.{entriesOf, entryWrite, registerWrite, writeNo, firstWrites, InOrder}
 use Rattle.planner.specs.declared.Plan.{Plan}
 use Rattle.planner.specs.declared.load.HostWrite.{HostWrite}
 

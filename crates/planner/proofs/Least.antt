@@ -1,16 +1,12 @@
 -- The quickest entry, and the lengths of any: pre-delay, edges and delay each at its least. Assumes nothing.
-use mathlib.Core.Path.{_≡_, refl, sym, ap, _∙_}
-use mathlib.Core.Bool.{Bool, true, false, cond}
-use mathlib.Core.List.{List}
-use Prim.Native.Nat.{ℕ, zero, suc, _+_, _-_, _*_, _/_, _%_, _≤_, _<_}
-use native.Mathlib.Nat.{mul-le-mul-left, add-le-add}
+use mathlib.Core.Path.{_≡_}
+use mathlib.Core.Bool.{true, false}
+use Prim.Native.Nat.{ℕ, _+_, _-_, _*_, _/_, _%_, _≤_, _<_}
+use native.Mathlib.Nat.{mul-le-mul-left}
 use native.Mathlib.Omega.{arith}
-use lib.Dec.{eqb}
-use lib.ListN.{getD}
-use borrow.Author.Tests.{eq-eqb, ne-eqb}
-use Rattle.qspi.specs.Fields.{spbr, dsck, dt, bitse, pcsField, bitsOf, preDelay, delayAfter}
-use Rattle.qspi.specs.Run.{edgeAt, lastClockOf, lengthOf}
-use Rattle.qspi.proofs.Bounds.{bits-pos, pre-pos, delay-pos}
+use Rattle.qspi.specs.Fields.{spbr, dsck, dt, pcsField, bitsOf, preDelay, delayAfter}
+use Rattle.qspi.specs.Run.{edgeAt, lastClockOf}
+use Rattle.qspi.proofs.Bounds.{bits-pos, pre-pos}
 use Rattle.planner.proofs.Verdict.{edge-formula}
 
 -- The least clock of edge 2n.

@@ -1,36 +1,26 @@
 -- What the writes of a plan's entries leave: their words and commands in the RAM, and all else as it was. Assumes nothing.
 use mathlib.Core.Path.{_≡_, refl, sym, ap, subst, _∙_}
-use mathlib.Core.Bool.{Bool, true, false, not, _&&_, _||_}
-use mathlib.Core.List.{List, [], _∷_, _++_, foldl, foldl-append}
-use Prim.Native.Nat.{ℕ, zero, suc, _+_, _-_, _*_, _/_, _%_, _^_, _≤_, _<_}
-use native.Mathlib.Nat.{pow-le-pow-right}
+use mathlib.Core.Bool.{true}
+use mathlib.Core.List.{List, foldl-append}
+use Prim.Native.Nat.{ℕ, zero, suc, _+_, _-_, _*_, _/_, _%_, _≤_, _<_}
 use native.Mathlib.Omega.{arith}
-use lib.Dec.{eqb, leb}
+use lib.Dec.{eqb}
 use lib.ListN.{getD, set, length, length-set}
 use lib.Seq.{getD-set-same, getD-set-other}
-use borrow.Author.Tests.{eqb-true, eqb-false, le-leb}
-use Rattle.steps.specs.Bits.{bit, word, merge, upperByte, lowerByte}
-use Rattle.qspi.specs.Fields.{mstr, spe, spbr, wren, endqp, newqp, halt}
-use Rattle.qspi.specs.Registers.{writeSpcr1, spcr0Unmodelled}
-use Rattle.qspi.specs.Queue.{entryAt}
-use Rattle.qspi.specs.Laws.{Starting}
-use Rattle.qspi.specs.Clauses.{Rises}
-use Rattle.qspi.specs.declared.Qspi.{Qspi}
-use Rattle.qspi.proofs.Rising.{spe-rises}
+use borrow.Author.Tests.{eqb-true, eqb-false}
+use Rattle.steps.specs.Bits.{word, upperByte, lowerByte}
 use Rattle.qsm.specs.Queue.{putQueue, queueUnmodelled, queueGuarded}
 use Rattle.qsm.specs.Word.{put, unmodelled, guarded}
 use Rattle.qsm.specs.State.{withQspi}
 use Rattle.qsm.specs.Event.{does}
 use Rattle.qsm.specs.declared.state.Module.{Module}
 use Rattle.qsm.specs.declared.event.Event.{Event}
-use Rattle.qsm.specs.declared.map.QueueWord.the-variants.{Spcr0, Spcr1, Spcr2, Transmit, Command}
+use Rattle.qsm.specs.declared.map.QueueWord.the-variants.{Transmit, Command}
 use Rattle.qsm.specs.declared.map.Place.the-variants.{Queue}
-use Rattle.qsm.proofs.Booleans.{on, or-true}
+use Rattle.qsm.proofs.Booleans.{on}
 use Rattle.planner.specs.Check.{commandNo, sentNo}
-use Rattle.planner.specs.Accepted.{Accepted}
-use Rattle.planner.specs.Loading.{writing, placeNo, entryWrites, entriesWritten, withPointers, registersWritten, loading}
+use Rattle.planner.specs.Loading.{writing, placeNo, entryWrites, entriesWritten}
 use Rattle.planner.specs.Running.{played, Ready, Sized}
-use Rattle.planner.specs.declared.SetPoints.{SetPoints}
 use Rattle.planner.specs.declared.Plan.{Plan}
 use Rattle.planner.proofs.Writing.{word-written, byte-written, transmit-at, command-at}
 use Rattle.planner.proofs.Bytes.{Replaced, byte-laid}

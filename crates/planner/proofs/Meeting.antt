@@ -16,8 +16,8 @@ use Rattle.qsm.specs.Decision.{admitted, storedBy, decideStored}
 use Rattle.qsm.specs.State.{resetModule}
 use Rattle.qsm.specs.Event.{writes, does}
 use Rattle.planner.specs.Check.{each, proper, clockBefore, accepts}
-use Rattle.planner.specs.Quickest.{commandsOf, otherCount, proposal, planned}
-use Rattle.planner.specs.Running.{Ready, Sized, NoFault}
+use Rattle.planner.specs.Quickest.{commandsOf, otherCount, proposal, ifAccepted}
+use Rattle.planner.specs.Running.{Ready, NoFault}
 use Rattle.planner.specs.Example.{byHand, set-up, hold, Example}
 
 all-zero : (n i : ℕ) → getD {A = ℕ} (replicate n 0) i 0 ≡ 0
@@ -49,7 +49,7 @@ unfolding does writes decideStored admitted inMap storedBy stored store iterate 
 no-fault = (refl, tt)
 
 pub example : Example
-unfolding each proper clockBefore accepts commandsOf otherCount proposal planned bitsOf preDelay delayAfter
+unfolding each proper clockBefore accepts commandsOf otherCount proposal ifAccepted bitsOf preDelay delayAfter
 example =
     record {
       accepted = refl;

@@ -1,16 +1,17 @@
--- The planner's two answers. Assumes nothing.
+-- A plan that is accepted is given, and no other. Assumes nothing.
 use mathlib.Core.Path.{_≡_}
 use mathlib.Core.Bool.{true, false}
 use Prim.Native.Nat.{ℕ}
 use Rattle.planner.specs.Check.{accepts}
-use Rattle.planner.specs.Quickest.{proposal, noPlan, planned}
+use Rattle.planner.specs.Quickest.{noPlan, ifAccepted}
 use Rattle.planner.specs.declared.SetPoints.{SetPoints}
+use Rattle.planner.specs.declared.Plan.{Plan}
 
-module _ (s : SetPoints) (window : ℕ) where
-  pub given : accepts s window (proposal s) ≡ true → planned s window ≡ record { refusal = 0; plan = proposal s }
-  unfolding planned
+module _ (s : SetPoints) (window : ℕ) (p : Plan) where
+  pub given : accepts s window p ≡ true → ifAccepted s window p ≡ record { refusal = 0; plan = p }
+  unfolding ifAccepted
   given h = rw h
 
-  pub refused : accepts s window (proposal s) ≡ false → planned s window ≡ noPlan
-  unfolding planned
+  pub refused : accepts s window p ≡ false → ifAccepted s window p ≡ noPlan
+  unfolding ifAccepted
   refused h = rw h

@@ -1,13 +1,13 @@
 -- The laws of the planner. Assumes nothing.
-use mathlib.Core.Path.{_≡_, refl, sym, ap, _∙_}
-use mathlib.Core.Bool.{true, false}
-use Prim.Native.Nat.{ℕ, _≤_, _<_}
+use mathlib.Core.Path.{_≡_, sym, ap, _∙_}
+use mathlib.Core.Bool.{true}
+use Prim.Native.Nat.{ℕ}
 use native.Mathlib.Omega.{arith}
 use Rattle.qsm.proofs.Booleans.{on}
 use Rattle.planner.specs.Check.{accepts}
 use Rattle.planner.specs.Accepted.{Accepted}
-use Rattle.planner.specs.Quickest.{proposal, noPlan, planned}
-use Rattle.planner.specs.Laws.{Sound, Complete, Refuses, Least, AnyWindow}
+use Rattle.planner.specs.Quickest.{proposal, ifAccepted, planned, changedAt, changed}
+use Rattle.planner.specs.Laws.{Sound, Complete, Refuses, Least, AnyWindow, Revises}
 use Rattle.planner.specs.declared.SetPoints.{SetPoints}
 use Rattle.planner.specs.declared.Plan.{Plan}
 use Rattle.planner.specs.declared.Planned.{Planned}
@@ -18,25 +18,39 @@ use Rattle.planner.proofs.Proposal.{clock-not-above, proposal-accepted}
 -- Where any plan is accepted the proposal is given.
 gives : (s : SetPoints) (window : ℕ) (p : Plan) → accepts s window p ≡ true → planned s window ≡ record { refusal = 0; plan = proposal s }
 gives s window p h =
-    given s window (means s window (proposal s) .1 (proposal-accepted s window p (means s window p .0 h)))
+    given s window (proposal s) (means s window (proposal s) .1 (proposal-accepted s window p (means s window p .0 h)))
 
--- And where one is given it is the proposal, accepted.
-is-proposal : (s : SetPoints) (window : ℕ) → planned s window .refusal ≡ 0 → accepts s window (proposal s) ≡ true
-is-proposal s window h =
-    on (accepts s window (proposal s)) (λ t. t)
-    (λ f. let z : 11 ≡ 0 = sym (ap (λ (r : Planned). r .refusal) (refused s window f)) ∙ h in absurd (omega arith))
+-- And what is given is accepted.
+is-accepted : (s : SetPoints) (window : ℕ) (p : Plan) → ifAccepted s window p .refusal ≡ 0 → accepts s window p ≡ true
+is-accepted s window p h =
+    on (accepts s window p) (λ t. t)
+    (λ f. let z : 11 ≡ 0 = sym (ap (λ (r : Planned). r .refusal) (refused s window p f)) ∙ h in absurd (omega arith))
+
+given-accepted : (s : SetPoints) (window : ℕ) (p : Plan) → ifAccepted s window p .refusal ≡ 0 →
+    accepts s window (ifAccepted s window p .plan) ≡ true
+given-accepted s window p h =
+    let t : accepts s window p ≡ true = is-accepted s window p h in
+    ap (λ (r : Planned). accepts s window (r .plan)) (given s window p t) ∙ t
 
 pub sound : Sound
-sound s window h =
-    let t : accepts s window (proposal s) ≡ true = is-proposal s window h in
-    ap (λ (r : Planned). accepts s window (r .plan)) (given s window t) ∙ t
+sound s window h = given-accepted s window (proposal s) h
+
+pub revises : Revises
+unfolding changed
+revises s window p spcr0 spcr1 = (
+  given-accepted s window (changed p spcr0 spcr1),
+  (λ clock h.
+      let same : changed p spcr0 spcr1 ≡ changedAt p spcr0 spcr1 clock =
+      ap (changedAt p spcr0 spcr1) (sym (means s window (changedAt p spcr0 spcr1 clock) .0 h .clock)) in
+      ap (ifAccepted s window) same ∙ given s window (changedAt p spcr0 spcr1 clock) h),
+)
 
 pub complete : Complete
 complete s window p h = ap (λ (r : Planned). r .refusal) (gives s window p h)
 
 pub refuses : Refuses
 refuses s window none =
-    on (accepts s window (proposal s)) (λ t. absurd (none (proposal s) t)) (λ f. refused s window f)
+    on (accepts s window (proposal s)) (λ t. absurd (none (proposal s) t)) (λ f. refused s window (proposal s) f)
 
 pub least : Least
 least s window p h =
@@ -44,8 +58,8 @@ least s window p h =
 
 pub any-window : AnyWindow
 any-window s window later h =
-    let t : accepts s window (proposal s) ≡ true = is-proposal s window h in
-    let is : planned s window ≡ record { refusal = 0; plan = proposal s } = given s window t in
+    let t : accepts s window (proposal s) ≡ true = is-accepted s window (proposal s) h in
+    let is : planned s window ≡ record { refusal = 0; plan = proposal s } = given s window (proposal s) t in
     let a : Accepted s window (proposal s) = means s window (proposal s) .0 t in
     let at : planned s window .plan .clock ≡ proposal s .clock = ap (λ (r : Planned). r .plan .clock) is in (
       (λ enough.

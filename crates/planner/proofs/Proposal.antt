@@ -1,23 +1,22 @@
 -- The proposal: its counts, its commands, its registers. If any plan is accepted the proposal is, with a clock not above. Assumes nothing.
-use mathlib.Core.Path.{_≡_, refl, sym, ap, subst, _∙_}
-use mathlib.Core.Bool.{Bool, true, false, cond, not, _&&_, _||_}
+use mathlib.Core.Path.{_≡_, refl, sym, ap, _∙_}
+use mathlib.Core.Bool.{Bool, true, false, cond}
 use mathlib.Core.Logic.{_⊎_, inl, inr, ⊎-elim}
-use mathlib.Core.List.{List}
 use Prim.Native.Nat.{ℕ, zero, suc, _+_, _-_, _*_, _/_, _%_, _≤_, _<_}
 use native.Mathlib.Nat.{le-trans, add-le-add}
 use native.Mathlib.Omega.{arith}
 use lib.Dec.{eqb, leb}
-use lib.ListN.{getD, set, length, length-set, length-replicate, replicate}
+use lib.ListN.{getD, set, length, length-set, length-replicate}
 use lib.Seq.{getD-set-same, getD-set-other}
-use borrow.Author.Tests.{eqb-true, eqb-false, eq-eqb, ne-eqb, leb-true, lt-leb}
-use Rattle.qspi.specs.Fields.{mstr, spbr, bitse, bitsField, zeroMeans, pcsField, bitsOf}
+use borrow.Author.Tests.{eqb-true, eqb-false, leb-true, lt-leb}
+use Rattle.qspi.specs.Fields.{mstr, spbr, bitsField, zeroMeans, pcsField, bitsOf}
 use Rattle.qspi.specs.Registers.{spcr0Unmodelled}
-use Rattle.qspi.specs.Run.{edgeAt, lastClockOf, lengthOf}
-use Rattle.qspi.proofs.Bounds.{bits-pos, delay-pos}
+use Rattle.qspi.specs.Run.{lastClockOf}
+use Rattle.qspi.proofs.Bounds.{delay-pos}
 use Rattle.qsm.proofs.Booleans.{on}
-use Rattle.planner.specs.Check.{selectNo, bitsNo, wordNo, commandNo, sentNo, clockBefore, clockOf, accepts}
-use Rattle.planner.specs.Accepted.{InRange, Proper, Carries, Accepted}
-use Rattle.planner.specs.Quickest.{quickest, commandsOf, otherCount, proposedAt, proposal}
+use Rattle.planner.specs.Check.{selectNo, bitsNo, wordNo, commandNo, clockBefore}
+use Rattle.planner.specs.Accepted.{InRange, Accepted}
+use Rattle.planner.specs.Quickest.{quickest, commandsOf, otherCount, proposal}
 use Rattle.planner.specs.declared.SetPoints.{SetPoints}
 use Rattle.planner.specs.declared.Plan.{Plan}
 use Rattle.planner.proofs.Counts.{count-of}

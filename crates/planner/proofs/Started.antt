@@ -1,15 +1,14 @@
 -- What loading a plan leaves: a queue whose next clock is clock 1 of the plan's first entry. Assumes nothing.
 use mathlib.Core.Path.{_≡_, refl, sym, ap, subst, _∙_}
-use mathlib.Core.Bool.{Bool, true, false, not, _&&_, _||_}
+use mathlib.Core.Bool.{true, false}
 use mathlib.Core.List.{foldl-append}
-use Prim.Native.Nat.{ℕ, _+_, _*_, _/_, _%_, _^_, _≤_, _<_}
+use Prim.Native.Nat.{ℕ, _+_, _*_, _/_, _%_, _<_}
 use native.Mathlib.Nat.{lt-of-lt-of-le, pow-le-pow-right}
 use native.Mathlib.Omega.{arith}
-use lib.Dec.{eqb, leb}
 use lib.ListN.{getD}
 use borrow.Author.Tests.{le-leb}
-use Rattle.steps.specs.Bits.{bit, word, upperByte, lowerByte}
-use Rattle.qspi.specs.Fields.{mstr, spe, spbr, wren, endqp, newqp, halt}
+use Rattle.steps.specs.Bits.{word, upperByte, lowerByte}
+use Rattle.qspi.specs.Fields.{spe, spbr, wren, endqp, halt}
 use Rattle.qspi.specs.Parts.{withRegisters}
 use Rattle.qspi.specs.Registers.{withSpcr1, risen, writeSpcr1, spcr2Bits}
 use Rattle.qspi.specs.Queue.{entryAt}
@@ -23,7 +22,7 @@ use Rattle.qsm.specs.declared.state.Module.{Module}
 use Rattle.qsm.specs.declared.event.Event.{Event}
 use Rattle.qsm.specs.declared.map.QueueWord.the-variants.{Spcr0, Spcr1, Spcr2}
 use Rattle.qsm.specs.declared.map.Place.the-variants.{Queue}
-use Rattle.qsm.proofs.Booleans.{both, or-true}
+use Rattle.qsm.proofs.Booleans.{or-true}
 use Rattle.planner.specs.Check.{commandNo, sentNo}
 use Rattle.planner.specs.Accepted.{Accepted}
 use Rattle.planner.specs.Loading.{writing, placeNo, entriesWritten, withPointers, registersWritten, loading}

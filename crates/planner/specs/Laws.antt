@@ -3,7 +3,7 @@ use mathlib.Core.Path.{_≡_}
 use mathlib.Core.Bool.{true}
 use Prim.Native.Nat.{ℕ, _≤_, _<_}
 use Rattle.planner.specs.Check.{accepts}
-use Rattle.planner.specs.Quickest.{noPlan, planned}
+use Rattle.planner.specs.Quickest.{noPlan, planned, changedAt, revised}
 use Rattle.planner.specs.declared.SetPoints.{SetPoints}
 use Rattle.planner.specs.declared.Plan.{Plan}
 
@@ -30,3 +30,11 @@ AnyWindow =
     (s : SetPoints) (window later : ℕ) → planned s window .refusal ≡ 0 →
     (planned s window .plan .clock ≤ later → planned s later ≡ planned s window)
     × (later < planned s window .plan .clock → planned s later ≡ noPlan)
+
+-- A plan with other registers is accepted where it is given, and is given where it is accepted with any clock at all.
+abbrev pub Revises : Type 0
+Revises =
+    (s : SetPoints) (window : ℕ) (p : Plan) (spcr0 spcr1 : ℕ) →
+    (revised s window p spcr0 spcr1 .refusal ≡ 0 → accepts s window (revised s window p spcr0 spcr1 .plan) ≡ true)
+    × ((clock : ℕ) → accepts s window (changedAt p spcr0 spcr1 clock) ≡ true →
+    revised s window p spcr0 spcr1 ≡ record { refusal = 0; plan = changedAt p spcr0 spcr1 clock })

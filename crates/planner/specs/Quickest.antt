@@ -1,4 +1,4 @@
--- Document 02, L10: what the planner proposes. The quickest entry has a pre-delay of 1, by DSCK with DSCKL 1, SPBR 2 and the plain delay.
+-- Document 02, L10: what the planner proposes, and a proposal changed. The quickest entry has a pre-delay of 1, by DSCK with DSCKL 1, SPBR 2 and the plain delay.
 use mathlib.Core.Bool.{cond}
 use mathlib.Core.List.{List}
 use Prim.Native.Nat.{ℕ, zero, suc, _+_, _-_, _*_, _%_}
@@ -61,6 +61,30 @@ noPlan =
           };
     }
 
--- The proposal if it is accepted, and else none.
-unfoldable pub planned : SetPoints → ℕ → Planned
-planned s window = cond (accepts s window (proposal s)) (record { refusal = 0; plan = proposal s }) noPlan
+-- A plan if it is accepted, and else none.
+unfoldable pub ifAccepted : SetPoints → ℕ → Plan → Planned
+ifAccepted s window p = cond (accepts s window p) (record { refusal = 0; plan = p }) noPlan
+
+abbrev pub planned : SetPoints → ℕ → Planned
+planned s window = ifAccepted s window (proposal s)
+
+-- A plan with other registers, and the clock that it then has.
+abbrev pub changedAt : Plan → ℕ → ℕ → ℕ → Plan
+changedAt p spcr0 spcr1 clock =
+    record {
+      clock = clock;
+      spcr0 = spcr0;
+      spcr1 = spcr1;
+      spcr2 = p .spcr2;
+      count = p .count;
+      first = p .first;
+      last = p .last;
+      commands = p .commands;
+      words = p .words;
+    }
+
+unfoldable pub changed : Plan → ℕ → ℕ → Plan
+changed p spcr0 spcr1 = changedAt p spcr0 spcr1 (clockOf (changedAt p spcr0 spcr1 0))
+
+abbrev pub revised : SetPoints → ℕ → Plan → ℕ → ℕ → Planned
+revised s window p spcr0 spcr1 = ifAccepted s window (changed p spcr0 spcr1)

@@ -10,7 +10,6 @@ use Rattle.steps.specs.Bits.{bit}
 use Rattle.qspi.specs.Fields.{cpol, cpha, spbr, spe, halt, preDelay}
 use Rattle.qspi.specs.Queue.{selected}
 use Rattle.qspi.specs.Run.{edgeAt}
-use Rattle.qspi.specs.declared.Pins.{Pins}
 use Rattle.qsm.specs.Event.{answerOf, does}
 use Rattle.qsm.specs.PinClauses.{assigned, DrivenAt, OutputAt}
 use Rattle.qsm.specs.declared.state.Module.{Module}

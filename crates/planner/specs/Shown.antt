@@ -1,6 +1,6 @@
 -- All that is shown of plans.
 use Rattle.planner.specs.Accepted.{Means, CountsAgree}
-use Rattle.planner.specs.Laws.{Sound, Complete, Refuses, Least, AnyWindow}
+use Rattle.planner.specs.Laws.{Sound, Complete, Refuses, Least, AnyWindow, Revises}
 use Rattle.planner.specs.Writes.{InOrder}
 use Rattle.planner.specs.Running.{DoesWhatItSays}
 use Rattle.planner.specs.Example.{Example}
@@ -13,6 +13,7 @@ pub record Shown : Type 0 where
   pub refuses : Refuses
   pub least : Least
   pub any-window : AnyWindow
+  pub revises : Revises
   pub in-order : InOrder
   pub does-what-it-says : DoesWhatItSays
   pub example : Example

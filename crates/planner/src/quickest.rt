@@ -1,9 +1,9 @@
-// The planner: the quickest plan for set-points, if it fits the window.
+// The planner: the quickest plan for set-points, if it fits the window; and a plan with other registers.
 ghost use mathlib.Core.Path.{_≡_};
 ghost use mathlib.Core.Bool.{cond};
 ghost use Prim.Native.Nat.{_≤_, _+_, _%_, _*_};
 ghost use lib.Dec.{eqb};
-ghost use Rattle.planner.specs.Quickest.{quickest, commandsOf, otherCount, proposedAt, proposal, noPlan, planned};
+ghost use Rattle.planner.specs.Quickest.{quickest, commandsOf, otherCount, proposedAt, proposal, noPlan, ifAccepted, planned, changed, revised};
 use crate::Plan;
 use crate::Planned;
 use crate::SetPoints;
@@ -106,6 +106,15 @@ fn no_plan() -> Planned
     Planned { plan, refusal: 11 }
 }
 
+fn if_accepted(points: SetPoints, window: u64, plan: Plan) -> Planned
+    ensures { λ r. ⌜ r ≡ ifAccepted points window plan ⌝ }
+{
+    if accepts(points, window, plan) {
+        return Planned { plan, refusal: 0 };
+    }
+    no_plan()
+}
+
 // A plan for set-points in a window, the quickest there is, or refusal 11.
 // Ruled out: a plan that isn't accepted; a refusal where some plan is; a slower plan than there is.
 pub fn plan(points: SetPoints, window: u64) -> Planned
@@ -114,9 +123,32 @@ pub fn plan(points: SetPoints, window: u64) -> Planned
     if !proper(points) {
         return no_plan();
     }
-    let plan = proposal(points);
-    if accepts(points, window, plan) {
-        return Planned { plan, refusal: 0 };
+    if_accepted(points, window, proposal(points))
+}
+
+fn changed(plan: Plan, spcr0: u16, spcr1: u16) -> Plan
+    requires { ⌜ (1 ≤ plan .count) × (plan .count ≤ 16) ⌝ }
+    ensures { λ r. ⌜ r ≡ changed plan spcr0 spcr1 ⌝ }
+{
+    let mut other = plan;
+    other.clock = 0;
+    other.spcr0 = spcr0;
+    other.spcr1 = spcr1;
+    let clock = last_edge(other, plan.count as usize - 1);
+    other.clock = clock;
+    other
+}
+
+// A plan with other registers, as a converter may want them: its clock worked out anew and the checker asked, or refusal 11.
+// Ruled out: the old clock kept; a plan given that isn't accepted.
+pub fn revise(points: SetPoints, window: u64, plan: Plan, spcr0: u16, spcr1: u16) -> Planned
+    ensures { λ r. ⌜ r ≡ revised points window plan spcr0 spcr1 ⌝ }
+{
+    if !proper(points) {
+        return no_plan();
     }
-    no_plan()
+    if plan.count != points.count {
+        return no_plan();
+    }
+    if_accepted(points, window, changed(plan, spcr0, spcr1))
 }

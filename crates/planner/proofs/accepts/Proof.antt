@@ -1,9 +1,7 @@
-use mathlib.Core.Path.{_≡_, sym, _∙_}
-use mathlib.Core.Bool.{true, false}
+use mathlib.Core.Path.{sym, _∙_}
 use native.Mathlib.Omega.{arith}
 use borrow.Author.Needs.{needs}
 use borrow.Author.Tests.{not-true, not-false}
-use Rattle.planner.specs.Check.{proper}
 use Rattle.planner.specs.Accepted.{Proper}
 use Rattle.planner.proofs.Meaning.{is-proper}
 use Rattle.planner.proofs.Verdict.{not-proper, other-number, judged}

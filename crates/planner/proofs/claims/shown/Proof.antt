@@ -1,7 +1,7 @@
 use mathlib.Core.Path.{refl}
 use Rattle.planner.proofs.Meaning.{means}
 use Rattle.planner.proofs.Counts.{counts-agree}
-use Rattle.planner.proofs.Planning.{sound, complete, refuses, least, any-window}
+use Rattle.planner.proofs.Planning.{sound, complete, refuses, least, any-window, revises}
 use Rattle.planner.proofs.InOrder.{in-order}
 use Rattle.planner.proofs.Doing.{does-what-it-says}
 use Rattle.planner.proofs.Meeting.{example}
@@ -19,6 +19,7 @@ returns c = (
     refuses = refuses;
     least = least;
     any-window = any-window;
+    revises = revises;
     in-order = in-order;
     does-what-it-says = does-what-it-says;
     example = example;

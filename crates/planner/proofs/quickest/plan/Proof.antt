@@ -1,13 +1,11 @@
-use mathlib.Core.Path.{_≡_, sym, ap, _∙_}
-use mathlib.Core.Bool.{true, false}
+use mathlib.Core.Path.{sym, _∙_}
 use borrow.Author.Needs.{needs}
 use borrow.Author.Tests.{not-true, not-false}
-use Rattle.planner.specs.Check.{proper, accepts}
 use Rattle.planner.specs.Accepted.{Proper}
 use Rattle.planner.specs.Quickest.{proposal}
 use Rattle.planner.proofs.Meaning.{is-proper}
 use Rattle.planner.proofs.Verdict.{not-proper}
-use Rattle.planner.proofs.Outcome.{given, refused}
+use Rattle.planner.proofs.Outcome.{refused}
 use Rattle.planner.proofs.quickest.plan.Statement.{statement}
 use Rattle.planner.proofs.quickest.plan.Tie as tie
 
@@ -16,7 +14,7 @@ returns c =
     let args = c .before .before .before .args in
     c .no-plan .ensures
     ∙ sym
-    (refused (args .points) (args .window)
+    (refused (args .points) (args .window) (proposal (args .points))
     (not-proper (args .points) (args .window) (proposal (args .points))
     (sym (c .before .before .proper .ensures) ∙ not-true _ (c .before .if1 .taken))))
 
@@ -27,22 +25,7 @@ proposal-requires c κs =
     (fit .some, fit .most)
 
 returns-2 : tie.Need-returns-2
-returns-2 c =
-    let args = c .before .before .before .before .before .args in
-    rw (c .before .before .proposal .ensures)
-    (sym
-    (given (args .points) (args .window)
-    (ap (accepts (args .points) (args .window)) (sym (c .before .before .proposal .ensures))
-    ∙ sym (c .before .accepts .ensures) ∙ c .if2 .taken)))
-
-returns-3 : tie.Need-returns-3
-returns-3 c =
-    let args = c .before .before .before .before .before .before .args in
-    c .no-plan2 .ensures
-    ∙ sym
-    (refused (args .points) (args .window)
-    (ap (accepts (args .points) (args .window)) (sym (c .before .before .before .proposal .ensures))
-    ∙ sym (c .before .before .accepts .ensures) ∙ c .before .if2 .left))
+returns-2 c = rw (c .if-accepted .ensures, c .before .proposal .ensures)
 
 pub plan-spec : {M : Type 1} → statement M
 plan-spec =
@@ -53,6 +36,4 @@ plan-spec =
     returns
     proposal-requires
     (λ c κs. search needs)
-    returns-2
-    (λ c κs. search needs)
-    returns-3)
+    returns-2)
