@@ -10,11 +10,19 @@ use std::time::{Duration, Instant};
 /// Turns for each program; the best one counts.
 const TURNS: usize = 7;
 
+/// Holds of the longest kind in a trace.
+const HOLDS: usize = 500;
+
 const RESET: [u8; 1] = [1];
 
 fn hold(pins: u8, rxd: u8, clocks: u16) -> Vec<u8> {
     let c = clocks.to_be_bytes();
     vec![2, pins, rxd, c[0], c[1]]
+}
+
+/// A record of kind 05.
+fn long_hold(pins: u8, rxd: u8, clocks: u32) -> Vec<u8> {
+    [vec![5, pins, rxd], clocks.to_be_bytes().to_vec()].concat()
 }
 
 fn read(width: u8, offset: u16) -> Vec<u8> {
@@ -54,6 +62,18 @@ fn queue_on(random: &mut Random) -> Vec<u8> {
     trace.extend(write(2, 0x1C, 0x4F00));
     trace.extend(write(2, 0x18, 0x8104));
     trace.extend(write(2, 0x1A, 0x8404));
+    trace
+}
+
+/// The queue on, wrapping over sixteen entries of 16,352 clocks each: 16 bits at the slowest rate, and the longest delay.
+fn slow_queue_on() -> Vec<u8> {
+    let mut trace = write(2, 0x16, 0x7B7E);
+    for i in 0..16 {
+        trace.extend(write(1, 0x140 + i, 0x6E));
+    }
+    trace.extend(write(2, 0x1C, 0x4F00));
+    trace.extend(write(2, 0x18, 0x80FF));
+    trace.extend(write(2, 0x1A, 0x8000));
     trace
 }
 
@@ -151,6 +171,33 @@ fn compare(name: &str, records: Vec<u8>, replay: &str, reference: &str, folder: 
     Ok(true)
 }
 
+/// How long `replay` takes for a hold of 4,294,967,295 clocks after what was set up, and Rust for a hundredth of the clocks, on which both
+/// must give one log.
+fn long(name: &str, setup: Vec<u8>, rxd: u8, replay: &str, reference: &str, folder: &Path) -> std::io::Result<bool> {
+    let once = |clocks| [RESET.to_vec(), setup.clone(), long_hold(0x7F, rxd, clocks)].concat();
+    let part = folder.join("long.trace");
+    fs::write(&part, once(u32::MAX / 100))?;
+    let whole = folder.join("longest.trace");
+    fs::write(&whole, once(u32::MAX).repeat(HOLDS))?;
+    let none = folder.join("none.trace");
+    fs::write(&none, [RESET.to_vec(), setup.clone()].concat().repeat(HOLDS))?;
+    let logs = [folder.join("long.replay.log"), folder.join("long.reference.log")];
+    play(replay, &part, &logs[0])?;
+    let rust = play(reference, &part, &logs[1])?;
+    if fs::read(&logs[0])? != fs::read(&logs[1])? {
+        println!("{name}: the logs differ");
+        return Ok(false);
+    }
+    let [mut with, mut without] = [Duration::MAX; 2];
+    for _ in 0..TURNS {
+        with = with.min(play(replay, &whole, &logs[0])?);
+        without = without.min(play(replay, &none, &logs[0])?);
+    }
+    let each = with.saturating_sub(without) / HOLDS as u32;
+    println!("{name}: a hold of 4,294,967,295 clocks {each:.1?}; Rust, a hundredth of the clocks, {rust:.1?}");
+    Ok(true)
+}
+
 fn main() -> ExitCode {
     let words: Vec<String> = std::env::args().collect();
     let [_, replay, reference, folder] = &words[..] else {
@@ -170,6 +217,15 @@ fn main() -> ExitCode {
             ("short", short()),
         ] {
             same &= compare(name, records, replay, reference, folder)?;
+        }
+        for (name, setup, rxd) in [
+            ("long, quiet", serial_on(), 1),
+            ("long, zero", serial_on(), 0),
+            ("long, wrapping", queue_on(&mut Random(3)), 1),
+            ("long, wrapping slowly", slow_queue_on(), 1),
+            ("long, all", [serial_on(), queue_on(&mut Random(3))].concat(), 1),
+        ] {
+            same &= long(name, setup, rxd, replay, reference, folder)?;
         }
         Ok(same)
     };
