@@ -1,5 +1,6 @@
 // What is asked for, from the words of the command.
-ghost use Prim.Native.Nat.{_≤_};
+ghost use mathlib.Core.Path.{_≡_};
+ghost use Rattle.editions.specs.Words.{hexValue, ofDigits, registerOf};
 use files::command::word;
 use settings::records::Edition;
 use text::number::Number;
@@ -14,36 +15,68 @@ pub enum Verb {
     Unknown,
 }
 
-enum Word {
+pub enum Word {
     Is(u16),
     NoWord,
 }
 
 // The value of a hexadecimal digit; 16 for what is none.
 fn hex_value(b: u8) -> u32
-    ensures { λ r. ⌜ r ≤ 16 ⌝ }
+    ensures { λ r. ⌜ r ≡ hexValue b ⌝ }
 {
-    match b {
-        48..=57 => (b - 48) as u32,
-        65..=70 => (b - 55) as u32,
-        97..=102 => (b - 87) as u32,
-        _ => 16,
+    if b < 48 {
+        return 16;
     }
+    if b < 58 {
+        return (b - 48) as u32;
+    }
+    if b < 65 {
+        return 16;
+    }
+    if b < 71 {
+        return (b - 55) as u32;
+    }
+    if b < 97 {
+        return 16;
+    }
+    if b < 103 {
+        return (b - 87) as u32;
+    }
+    16
+}
+
+// A word of four digits, if each is one.
+fn of_digits(a: u32, b: u32, c: u32, d: u32) -> Word
+    ensures { λ r. ⌜ r ≡ ofDigits a b c d ⌝ }
+{
+    if a > 15 {
+        return Word::NoWord;
+    }
+    if b > 15 {
+        return Word::NoWord;
+    }
+    if c > 15 {
+        return Word::NoWord;
+    }
+    if d > 15 {
+        return Word::NoWord;
+    }
+    Word::Is((a * 4096 + b * 256 + c * 16 + d) as u16)
 }
 
 // A register: four hexadecimal digits.
-fn register_of(word: &[u8]) -> Word {
+fn register_of(word: &[u8]) -> Word
+    ensures { λ r. ⌜ r ≡ registerOf (now (word .entry)) ⌝ }
+{
     if word.len() != 4 {
         return Word::NoWord;
     }
-    let a = hex_value(word[0]);
-    let b = hex_value(word[1]);
-    let c = hex_value(word[2]);
-    let d = hex_value(word[3]);
-    if (a > 15) | (b > 15) | (c > 15) | (d > 15) {
-        return Word::NoWord;
-    }
-    Word::Is(((a * 4096 + b * 256 + c * 16 + d) % 65536) as u16)
+    of_digits(
+        hex_value(word[0]),
+        hex_value(word[1]),
+        hex_value(word[2]),
+        hex_value(word[3]),
+    )
 }
 
 // An edition's number, in decimal.

@@ -51,6 +51,10 @@ fn whole(fd: i32, path: &[u8], buf: &mut [u8]) -> Loaded {
 
 // The file at a path, at the start of a buffer. One that is not there is empty for an edition to add. What can't be read is said.
 pub fn load(path: &[u8], adds: bool, buf: &mut [u8]) -> Loaded {
+    if path.len() == 0 {
+        say(b"editions", b"a file's name is empty or too long\n");
+        return not_read();
+    }
     let fd = os::open_read(path);
     if fd < 0 {
         if adds & (os::errno() == libc::ENOENT) {
