@@ -1,12 +1,12 @@
 -- The laws of keeping editions. Assumes nothing.
 use mathlib.Core.Path.{_≡_, refl, sym, ap, _∙_}
-use mathlib.Core.Bool.{Bool, true, false, _&&_}
+use mathlib.Core.Bool.{Bool, true, false, _&&_, not}
 use mathlib.Core.List.{List, [], _∷_, _++_}
 use Prim.Native.Nat.{ℕ, _+_, _≤_, _<_}
 use native.Mathlib.Omega.{arith}
 use lib.Dec.{eqb, ltb, leb}
 use lib.ListN.{length, take, drop}
-use borrow.Author.Tests.{eqb-true, eqb-false, eq-eqb, ne-eqb, leb-true, leb-false}
+use borrow.Author.Tests.{eqb-true, eqb-false, eq-eqb, ne-eqb, leb-true, leb-false, not-false}
 use Rattle.settings.specs.Records.{sizeOf}
 use Rattle.settings.specs.Rules.{given, missing, latestFrom, lastFrom, unmodelled, refusalOf, latest}
 use Rattle.settings.specs.Contents.{Reading, holds, refuses, contents}
@@ -89,11 +89,55 @@ given-back k e rs w fits ok keeps =
     let h = through (Stands e) (Keeps (e .number)) (stands-behind e) (after k (Added e)) rs fits keeps (first-stands k e w ok) in
     rw (h .held) (h .have .found)
 
+-- ---- not given again
+
+-- Edition n is no new one, and does not stand.
+record Gone (n : ℕ) (rs : List Record) : Type 0 where
+  below : n ≤ lastFrom 0 rs
+  lost : latest false n rs ≡ missing 8
+
+by-same : (n m : ℕ) (rs : List Record) → latest false n rs ≡ missing 8 → (t : Bool) → eqb m n ≡ t → latest false n (rs ++ (Withdrawn m ∷ [])) ≡ missing 8
+by-same n m rs lost true is = rw (eqb-true m n is) (withdrawn-last n (missing 8) rs)
+by-same n m rs lost false is = other-withdrawn n m (eqb-false m n is) (missing 8) rs ∙ lost
+
+gone-behind : (n : ℕ) (rs : List Record) (r : Record) → Gone n rs → Fits r → refusalOf rs true r ≡ 0 → Gone n (rs ++ (r ∷ []))
+gone-behind n rs (Added f) g fits ok =
+    let higher = above rs f ok in
+    record {
+      below = rw (last-behind 0 rs (Added f)) (omega (arith, g .below, higher));
+      lost = added-behind (missing 8) false n rs f ∙ rw (ne-eqb (f .number) n (λ z. omega (arith, z, g .below, higher))) (g .lost);
+    }
+gone-behind n rs (Withdrawn m) g fits ok =
+    record { below = rw (last-behind 0 rs (Withdrawn m)) (g .below); lost = by-same n m rs (g .lost) (eqb m n) refl }
+
+standing-below : (n : ℕ) (rs : List Record) → Ascending 0 rs → latest false n rs .refusal ≡ 0 → (t : Bool) → leb n (lastFrom 0 rs) ≡ t → n ≤ lastFrom 0 rs
+standing-below n rs a found true is = leb-true n (lastFrom 0 rs) is
+standing-below n rs a found false is =
+    let none-there = above-last 0 n (missing 8) rs a (leb-false n (lastFrom 0 rs) is) in
+    let z : _≡_ {A = ℕ} 8 0 = sym (ap (λ (g : Given). g .refusal) none-there) ∙ found in
+    absurd (omega arith)
+
+first-gone : (k : Kept) (n : ℕ) → n < 65536 → answer k (Withdrawn n) ≡ 0 → Holding (Gone n) (after k (Withdrawn n))
+first-gone k n small ok =
+    let l = let-of k (Withdrawn n) ok in
+    let rs = l .records in
+    let tests = no-refusal false (not (eqb (latest false n rs .refusal) 0)) (true && ltb (length rs) 64) (l .right) in
+    let found : latest false n rs .refusal ≡ 0 = eqb-true (latest false n rs .refusal) 0 (not-false (eqb (latest false n rs .refusal) 0) (tests .1)) in
+    record {
+      records = rs ++ (Withdrawn n ∷ []);
+      held = after-is k (Withdrawn n) small l;
+      have =
+          record {
+            below = rw (last-behind 0 rs (Withdrawn n)) (standing-below n rs (ascending (k .buffer) (k .used) (l .held)) found (leb n (lastFrom 0 rs)) refl);
+            lost = withdrawn-last n (missing 8) rs;
+          };
+    }
+
 pub not-given : NotGiven
 unfolding asked
-not-given k n fits ok =
-    let l = let-of k (Withdrawn n) ok in
-    rw (after-is k (Withdrawn n) fits l) (ap (λ (g : Given). g .refusal) (withdrawn-last n (missing 8) (l .records)))
+not-given k n rs small fits ok =
+    let h = through (Gone n) Fits (gone-behind n) (after k (Withdrawn n)) rs fits fits (first-gone k n small ok) in
+    rw (h .held) (ap (λ (g : Given). g .refusal) (h .have .lost))
 
 -- ---- the newest
 

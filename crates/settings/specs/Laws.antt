@@ -56,11 +56,12 @@ GivenBack =
     let l = afterAll (after k (Added e)) rs in
     get (l .buffer) (l .used) (e .number) ≡ given e
 
--- What was withdrawn is not given, unless it is added again.
+-- What was withdrawn is not given again, whatever is added or withdrawn after it.
 abbrev pub NotGiven : Type 0
 NotGiven =
-    (k : Kept) (n : ℕ) → n < 65536 → answer k (Withdrawn n) ≡ 0 →
-    get (after k (Withdrawn n) .buffer) (after k (Withdrawn n) .used) n .refusal ≡ 8
+    (k : Kept) (n : ℕ) (rs : List Record) → n < 65536 → Each Fits rs → answer k (Withdrawn n) ≡ 0 →
+    let l = afterAll (after k (Withdrawn n)) rs in
+    get (l .buffer) (l .used) n .refusal ≡ 8
 
 -- The newest is the largest that is given; if there is no newest, none is given.
 pub record Largest (k : Kept) : Type 0 where

@@ -13,7 +13,7 @@ use Rattle.settings.specs.declared.records.Record.{Record}
 use Rattle.settings.specs.declared.records.Record.the-variants.{Added, Withdrawn}
 use Rattle.settings.specs.declared.rules.Tried.{Tried}
 
--- One of the records withdraws edition n.
+-- A record withdraws edition n; one of some records does.
 abbrev pub withdraws : Record → ℕ → Bool
 withdraws (Added e) n = false
 withdraws (Withdrawn m) n = eqb m n
