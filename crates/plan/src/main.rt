@@ -39,7 +39,8 @@ with -, standard input is read.
 It is the quickest plan there is: SPBR 2 and a delay of one clock before SCK. What a converter asks makes it slower: --cpol and --cpha set
 CPOL and CPHA, --spbr (2 to 255) and --dsckl (1 to 127) give the least SPBR and DSCKL. The clock is then worked out anew and the plan checked again.
 With --trace the plan is written as a trace that makes MOSI and the PCS outputs, loads the plan and runs it: plan --trace 95 points.txt | replay.
-Refused (11) is what has no plan: an empty list, a set-point out of range, counts of bits other than 8 that differ, a window too short.
+A line that is no set-point is reported with its number and column. Refused (11) is what has no plan: no set-point at all, counts of bits other
+than 8 that differ, a window too short.
 ",
     );
 }
@@ -130,6 +131,9 @@ fn with_fault(line: Line, fault: u8) -> Line {
         2 => line.write(b"a number above 65535\n"),
         3 => line.write(b"more than three words\n"),
         4 => line.write(b"fewer than three words\n"),
+        6 => line.write(b"a chip select above 15\n"),
+        7 => line.write(b"bits not from 8 to 16\n"),
+        8 => line.write(b"a word too big for its bits\n"),
         _ => line.write(b"more than 16 set-points\n"),
     }
 }
@@ -157,27 +161,48 @@ fn chosen(b: bool, weight: u16) -> u16
 }
 
 // The proposal with what the converter asks.
-fn changed(w: Wanted, r: Reading, planned: Planned) -> Planned {
-    let plan = planned.plan;
+fn changed(w: Wanted, r: Reading, window: u64) -> Planned {
     let points = r.points;
+    let planned = planner::quickest::plan(points, window);
+    if planned.refusal != 0 {
+        return planned;
+    }
+    let plan = planned.plan;
     let spbr = (w.spbr % 256) as u16;
     let dsckl = (w.dsckl % 128) as u16;
     let spcr0 = plan.spcr0 / 1024 * 1024 + chosen(w.cpol, 512) + chosen(w.cpha, 256) + spbr;
     let spcr1 = plan.spcr1 / 32768 * 32768 + dsckl * 256 + plan.spcr1 % 256;
-    planner::quickest::revise(points, w.window, plan, spcr0, spcr1)
+    planner::quickest::revise(points, window, plan, spcr0, spcr1)
+}
+
+// Why there is no plan: with no end to the window there would be one, or there is none at all.
+fn refuse(w: Wanted, r: Reading) {
+    let planned = changed(w, r, u64::MAX);
+    let plan = planned.plan;
+    if planned.refusal == 0 {
+        let line = Line::empty()
+            .write(b"refusal 11, no plan: it takes ")
+            .decimal(20, plan.clock)
+            .write(b" clocks\n");
+        say_line(line);
+        return;
+    }
+    let points = r.points;
+    if points.count == 0 {
+        say(b"plan", b"refusal 11, no plan: there is no set-point\n");
+        return;
+    }
+    say(
+        b"plan",
+        b"refusal 11, no plan: counts of bits other than 8 differ\n",
+    );
 }
 
 fn answer(w: Wanted, r: Reading) {
     let points = r.points;
-    let mut planned = planner::quickest::plan(points, w.window);
-    if planned.refusal == 0 {
-        planned = changed(w, r, planned);
-    }
+    let planned = changed(w, r, w.window);
     if planned.refusal != 0 {
-        say(
-            b"plan",
-            b"refusal 11, no plan for these set-points in this window\n",
-        );
+        refuse(w, r);
         return;
     }
     let plan = planned.plan;

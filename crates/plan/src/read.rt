@@ -71,6 +71,30 @@ fn grown(value: u32, hex: bool, d: u8) -> u32 {
     n + d as u32
 }
 
+// A word that is not too big for its bits.
+fn fits(bits: u8, value: u32) -> bool {
+    match bits {
+        8 => value < 256,
+        9 => value < 512,
+        10 => value < 1024,
+        11 => value < 2048,
+        12 => value < 4096,
+        13 => value < 8192,
+        14 => value < 16384,
+        15 => value < 32768,
+        _ => value < 65536,
+    }
+}
+
+// A select from 0 to 15, bits from 8 to 16, a word that fits them.
+fn in_range(field: u8, bits: u8, value: u32) -> bool {
+    match field {
+        0 => value <= 15,
+        1 => (value >= 8) & (value <= 16),
+        _ => fits(bits, value),
+    }
+}
+
 fn byte_of(value: u32) -> u8 {
     if value > 255 {
         255
@@ -137,21 +161,22 @@ impl Reading {
             return self.faulty(2, start);
         }
         let field = self.field;
+        if field > 2 {
+            return self.faulty(3, start);
+        }
+        self.field = field + 1;
+        if !in_range(field, self.bits, self.value) {
+            return self.faulty(6 + field, start);
+        }
         if field == 0 {
             self.select = byte_of(self.value);
-            self.field = 1;
             return self;
         }
         if field == 1 {
             self.bits = byte_of(self.value);
-            self.field = 2;
             return self;
         }
-        if field == 2 {
-            self.field = 3;
-            return self.added();
-        }
-        self.faulty(3, start)
+        self.added()
     }
 
     // A line has ended: it has three words or none.

@@ -35,6 +35,9 @@ pub fn number(word: &str) -> Result<usize, String> {
     word.parse().map_err(|_| format!("no number: {word}"))
 }
 
+const USAGE: &str =
+    "usage: tools play [ROOM] | compare FILE_A FILE_B ROOM | figures | editions | check | plan";
+
 fn run(words: &[&str]) -> Printed {
     match words {
         ["play"] => play::play(None),
@@ -46,7 +49,7 @@ fn run(words: &[&str]) -> Printed {
         ["editions"] => editions::editions(),
         ["check"] => plan::check(&text()?),
         ["plan"] => plan::plan(&text()?),
-        _ => Err("usage: tools play [ROOM] | compare FILE_A FILE_B ROOM | figures | editions | check | plan".into()),
+        _ => Err(USAGE.into()),
     }
 }
 
