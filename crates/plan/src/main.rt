@@ -39,8 +39,7 @@ with -, standard input is read.
 It is the quickest plan there is: SPBR 2 and a delay of one clock before SCK. What a converter asks makes it slower: --cpol and --cpha set
 CPOL and CPHA, --spbr (2 to 255) and --dsckl (1 to 127) give the least SPBR and DSCKL. The clock is then worked out anew and the plan checked again.
 With --trace the plan is written as a trace that makes MOSI and the PCS outputs, loads the plan and runs it: plan --trace 95 points.txt | replay.
-A line that is no set-point is reported with its number and column. Refused (11) is what has no plan: no set-point at all, counts of bits other
-than 8 that differ, a window too short.
+Refused (11): no set-point, counts of bits other than 8 that differ, a window too short. A line that is no set-point is told by its place.
 ",
     );
 }
