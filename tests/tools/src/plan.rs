@@ -103,7 +103,7 @@ fn run(plan: Plan) -> Result<(), String> {
     }
     let mut left = plan.clock - 1;
     while left > 0 {
-        let clocks = u16::try_from(left).unwrap_or(u16::MAX);
+        let clocks = u32::try_from(left).unwrap_or(u32::MAX);
         m.hold(0, true, clocks);
         left -= u64::from(clocks);
     }
