@@ -1,4 +1,5 @@
-//! The module of `include/qsm.h` for a host in Rust.
+//! The module of `include/qsm.h` for a host in Rust, and numbers for tests of it.
 
 mod layout;
 pub mod qsm;
+pub mod random;

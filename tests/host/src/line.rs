@@ -1,7 +1,7 @@
 //! What a sender puts on RXD: frames bit by bit, rests, breaks and noise.
 
 use crate::event::Event;
-use crate::random::Random;
+use host::random::Random;
 
 pub struct Line {
     /// Bits to send, lowest first, and how many.

@@ -7,7 +7,6 @@ mod fields;
 mod line;
 mod pair;
 mod queue;
-mod random;
 mod script;
 mod serial;
 mod shown;

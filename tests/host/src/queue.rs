@@ -1,7 +1,7 @@
 //! What a firmware does with the queue half, in good order and in bad.
 
 use crate::event::{read, write, Event};
-use crate::random::Random;
+use host::random::Random;
 
 const PORTQS: u16 = 0x15;
 const PQSPAR: u16 = 0x16;

@@ -2,7 +2,7 @@
 
 use crate::event::Event;
 use crate::line::Line;
-use crate::random::Random;
+use host::random::Random;
 use crate::{queue, serial, wild};
 use std::collections::VecDeque;
 

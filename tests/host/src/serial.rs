@@ -2,7 +2,7 @@
 
 use crate::event::{read, write, Event};
 use crate::line::Line;
-use crate::random::Random;
+use host::random::Random;
 
 const QILR: u16 = 0x04;
 const SCCR0: u16 = 0x08;

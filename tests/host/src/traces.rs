@@ -1,7 +1,7 @@
 //! A round's events once more, as a trace: whole, cut, with an unknown kind, and with too little room.
 
 use crate::pair::{same, Difference, Pair};
-use crate::random::Random;
+use host::random::Random;
 use reference::ANSWER_LENGTH;
 
 /// What stands in a log before it is written.

@@ -1,7 +1,7 @@
 //! Accesses that no firmware should make, among some that it may.
 
 use crate::event::{write, Event};
-use crate::random::Random;
+use host::random::Random;
 
 const QSMCR: u16 = 0x00;
 

@@ -6,6 +6,7 @@ mod compare;
 mod editions;
 mod figures;
 mod plan;
+mod plans;
 mod play;
 
 use std::io::{self, Read, Write};
@@ -36,7 +37,7 @@ pub fn number(word: &str) -> Result<usize, String> {
 }
 
 const USAGE: &str =
-    "usage: tools play [ROOM] | compare FILE_A FILE_B ROOM | figures | editions | check | plan";
+    "usage: tools play [ROOM] | compare FILE_A FILE_B ROOM | figures | editions | check | plan | plans REPLAY COUNT SEED";
 
 fn run(words: &[&str]) -> Printed {
     match words {
@@ -49,6 +50,7 @@ fn run(words: &[&str]) -> Printed {
         ["editions"] => editions::editions(),
         ["check"] => plan::check(&text()?),
         ["plan"] => plan::plan(&text()?),
+        ["plans", replay, count, seed] => plans::plans(replay, number(count)?, number(seed)?),
         _ => Err(USAGE.into()),
     }
 }
