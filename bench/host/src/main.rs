@@ -8,6 +8,7 @@ use std::time::Instant;
 const TURNS: usize = 60;
 
 const SCSR: u16 = 0x0C;
+const SCDR: u16 = 0x0E;
 const PINS: u8 = 0xFF;
 
 /// Clocks for which RXD keeps a level on a busy line: a bit at SCBR 4.
@@ -17,6 +18,7 @@ const BIT: u32 = 128;
 #[derive(Clone, Copy)]
 enum Call {
     Read,
+    Write,
     Hold(u32),
 }
 
@@ -34,7 +36,8 @@ macro_rules! module {
                 black_box(self.read(true, black_box(2), offset)).value
             }
             fn write(&mut self, offset: u16, value: u32) -> u32 {
-                self.write(true, 2, offset, value).refusal.into()
+                let answer = self.write(true, black_box(2), offset, value);
+                black_box(answer).refusal.into()
             }
             fn hold(&mut self, rxd: bool, clocks: u32) -> u32 {
                 let answer = self.hold(PINS, <$level>::from(rxd), clocks);
@@ -71,6 +74,7 @@ fn time<M: Module>(from: &M, call: Call, busy: bool, count: u32) -> (f64, u32) {
     for i in 0..count {
         let given = match call {
             Call::Read => module.read(black_box(SCSR)),
+            Call::Write => module.write(black_box(SCDR), black_box(i % 512)),
             Call::Hold(clocks) => {
                 let level = !busy || (i * clocks / BIT).is_multiple_of(2);
                 module.hold(black_box(level), black_box(clocks))
@@ -90,6 +94,7 @@ fn main() {
         let reference = set_up(reference::Module::new(), busy);
         for (name, call, count) in [
             ("read of SCSR", Call::Read, 100_000),
+            ("write of SCDR", Call::Write, 100_000),
             ("hold of 1 clock", Call::Hold(1), 100_000),
             ("hold of 1,000 clocks", Call::Hold(1000), 1_000),
         ] {
