@@ -2,6 +2,7 @@ pub mod Clocks
 pub mod Ranges
 pub mod Splitting
 pub mod Reading
+pub mod Straight
 pub mod Booleans
 pub mod StatusFlags
 pub mod Asking

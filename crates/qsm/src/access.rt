@@ -21,7 +21,7 @@ pub struct Store {
 }
 
 // The offset of the word after this one.
-fn next(at: u16) -> u16
+pub(crate) fn next(at: u16) -> u16
     ensures { λ r. ⌜ r ≡ next at ⌝ }
 {
     (((at as u32) + 2) % 65536) as u16

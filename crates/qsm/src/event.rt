@@ -1,5 +1,9 @@
 // Events, answers and the step: reset, hold, read and write.
 ghost use mathlib.Core.Path.{_≡_};
+ghost use Rattle.sci.specs.Serial as serial;
+ghost use Rattle.qspi.specs.Outputs as queue;
+ghost use Rattle.qsm.specs.Pins.{mask, levels};
+ghost use Rattle.qsm.specs.Request.{request};
 ghost use Rattle.qsm.specs.Decision.{storedBy};
 ghost use Rattle.qsm.specs.Event.{answerOf, done, refused, answered, clocks, held, afterRead, readValue, readDecided, writeDecided, resets, holds, reads, writes, accesses, does, step};
 use crate::access::Store;
@@ -12,8 +16,10 @@ use crate::lanes::lined;
 use crate::lanes::lower_lane;
 use crate::lanes::touches;
 use crate::lanes::upper_lane;
+use crate::pins::Outputs;
 use crate::pins::outputs_of;
 use crate::queue::queue_read;
+use crate::request::Request;
 use crate::request::request_of;
 use crate::serial::serial_read;
 use crate::state::Module;
@@ -159,6 +165,27 @@ impl Module {
         self.read_decided(d, width, offset)
     }
 
+    // The same as `read_decided` and `reads`, in straight code.
+    fn polled(self, d: Decision, width: u8, offset: u16) -> Done
+        ensures { λ r. ⌜ r ≡ readDecided d self width offset ⌝ }
+    {
+        let permitted = permits(d);
+        let value = self.value_if(permitted, width, offset);
+        let state = self.marked(
+            permitted & touches(0x0C, 2, width, offset),
+            permitted & touches(0x0F, 1, width, offset),
+            permitted & touches(0x1F, 1, width, offset),
+        );
+        state.done(refusal_of(d), value)
+    }
+
+    fn polls(self, supervisor: bool, width: u8, offset: u16) -> Done
+        ensures { λ r. ⌜ r ≡ reads self supervisor width offset ⌝ }
+    {
+        let d = self.decide_read(supervisor, width, offset);
+        self.polled(d, width, offset)
+    }
+
     fn stored_by(self, width: u8, offset: u16, value: u32) -> Store
         ensures { λ r. ⌜ r ≡ storedBy self width offset value ⌝ }
     {
@@ -204,23 +231,34 @@ impl Module {
     }
 }
 
+// The request of both halves.
+fn asked_of(m: Module) -> Request
+    ensures { λ r. ⌜ r ≡ request (queue.asks (m .qspi)) (serial.asks (m .sci)) (m .qilr) (m .qivr) ⌝ }
+{
+    let sci = m.sci;
+    let qspi = m.qspi;
+    request_of(qspi.asks(), sci.asks(), m.qilr, m.qivr)
+}
+
+fn answer_of(pins: Outputs, asked: Request, refusal: u8, value: u32) -> Answer
+    ensures { λ r. ⌜ r ≡ record { refusal = refusal; value = value; levels = levels pins; mask = mask pins; level = asked .level; vector = asked .vector } ⌝ }
+{
+    Answer {
+        refusal,
+        value,
+        levels: pins.levels(),
+        mask: pins.mask(),
+        level: asked.level,
+        vector: asked.vector,
+    }
+}
+
 impl Done {
     fn answer(self) -> Answer
         ensures { λ r. ⌜ r ≡ answerOf (self .state) (self .refusal) (self .value) ⌝ }
     {
         let state = self.state;
-        let sci = state.sci;
-        let qspi = state.qspi;
-        let pins = outputs_of(state);
-        let asked = request_of(qspi.asks(), sci.asks(), state.qilr, state.qivr);
-        Answer {
-            refusal: self.refusal,
-            value: self.value,
-            levels: pins.levels(),
-            mask: pins.mask(),
-            level: asked.level,
-            vector: asked.vector,
-        }
+        answer_of(outputs_of(state), asked_of(state), self.refusal, self.value)
     }
 
     fn with(self, answer: Answer) -> Stepped
@@ -251,8 +289,10 @@ pub fn hold(m: Module, pins: u8, rxd: bool, clocks: u32) -> Stepped
 pub fn read(m: Module, supervisor: bool, width: u8, offset: u16) -> Stepped
     ensures { λ r. ⌜ r ≡ answered (reads m supervisor width offset) ⌝ }
 {
-    let d = m.reads(supervisor, width, offset);
-    d.with(d.answer())
+    let d = m.polls(supervisor, width, offset);
+    let state = d.state;
+    let answer = answer_of(outputs_of(state), asked_of(state), d.refusal, d.value);
+    Stepped { state, answer }
 }
 
 // Ruled out: every write refused; a refused write that leaves its first half.

@@ -9,6 +9,7 @@ mod laws;
 pub mod map;
 pub mod own;
 pub mod pins;
+mod polling;
 pub mod queue;
 pub mod request;
 pub mod serial;

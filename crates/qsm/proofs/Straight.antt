@@ -1,0 +1,94 @@
+-- A read in straight code: one or two words in place of the loop over them, and the two status registers in place of the halves.
+use mathlib.Core.Bool.{Bool, true, false, cond, _&&_}
+use mathlib.Core.Path.{_≡_, refl}
+use Prim.Native.Nat.{ℕ, _+_, _*_, _%_}
+use native.Mathlib.Nat.{zero-add}
+use Rattle.steps.specs.Iterate.{iterate}
+use Rattle.sci.specs.Flags.{receiveFlags}
+use Rattle.sci.specs.Status.{markSeen, fallSeen}
+use Rattle.sci.specs.Serial.{withStatus}
+use Rattle.sci.specs.declared.serial.Sci.{Sci}
+use Rattle.qspi.specs.Parts.{withSpsr}
+use Rattle.qspi.specs.Spsr.{flagsSeen}
+use Rattle.qspi.specs.declared.Qspi.{Qspi}
+use Rattle.qsm.specs.Map.{decode}
+use Rattle.qsm.specs.Word.{peek}
+use Rattle.qsm.specs.Lanes.{touches}
+use Rattle.qsm.specs.Access.{next, fetch, fetched}
+use Rattle.qsm.specs.Serial.{serialRead}
+use Rattle.qsm.specs.Queue.{queueRead}
+use Rattle.qsm.specs.State.{withSci, withQspi}
+use Rattle.qsm.specs.Decision.{refusalOf, permits}
+use Rattle.sci.specs.Serial as serial
+use Rattle.qspi.specs.Outputs as queue
+use Rattle.qsm.specs.Pins.{outputs, levels, mask}
+use Rattle.qsm.specs.Request.{request}
+use Rattle.qsm.specs.Event.{done, afterRead, readValue, readDecided, refused, answerOf, answered}
+use Rattle.qsm.specs.declared.state.Module.{Module}
+use Rattle.qsm.specs.declared.pins.Outputs.{Outputs}
+use Rattle.qsm.specs.declared.request.Request.{Request}
+use Rattle.qsm.specs.declared.event.Answer.{Answer}
+use Rattle.qsm.specs.declared.event.Done.{Done}
+use Rattle.qsm.specs.declared.event.Stepped.{Stepped}
+use Rattle.qsm.specs.declared.decision.Decision.{Decision}
+use Rattle.qsm.specs.declared.decision.Decision.the-variants.{Permitted, Blocked, Misshapen, Unmapped, Unmodelled, Guarded}
+
+pub one-word : (m : Module) (at : ℕ) → fetched m at 1 ≡ peek m (decode at)
+unfolding fetched fetch iterate
+one-word m at = zero-add _
+
+pub two-words : (m : Module) (at : ℕ) →
+    fetched m at 2 ≡ peek m (decode at) % 65536 * 65536 + peek m (decode (next at))
+unfolding fetched fetch iterate
+two-words m at = rw zero-add
+
+-- A read of the serial half changes SCSR and its marks alone.
+pub serial-marked : (status low : Bool) (s : Sci) →
+    withStatus s (cond low (fallSeen (cond status (markSeen (s .status)) (s .status)) receiveFlags) (cond status (markSeen (s .status)) (s .status)))
+    ≡ serialRead status low s
+unfolding serialRead
+serial-marked true true s = refl
+serial-marked true false s = refl
+serial-marked false true s = refl
+serial-marked false false s = refl
+
+-- A read of the queue half changes the marks of SPSR alone.
+pub queue-marked : (status : Bool) (q : Qspi) →
+    withSpsr q (cond status (flagsSeen (q .spsr)) (q .spsr)) ≡ queueRead status q
+unfolding queueRead
+queue-marked true q = refl
+queue-marked false q = refl
+
+-- What a read leaves that was decided, by what it marks: nothing where it isn't permitted.
+abbrev pub marked : Module → Bool → Bool → Bool → Module
+marked m status low queue = withQspi (withSci m (serialRead status low (m .sci))) (queueRead queue (m .qspi))
+
+pub read-straight : (d : Decision) (m : Module) (width offset : ℕ) →
+    done
+    (marked m (permits d && touches 0x0C 2 width offset) (permits d && touches 0x0F 1 width offset)
+    (permits d && touches 0x1F 1 width offset))
+    (refusalOf d) (cond (permits d) (readValue m width offset) 0)
+    ≡ readDecided d m width offset
+unfolding afterRead refused serialRead queueRead
+read-straight Permitted m width offset = refl
+read-straight Blocked m width offset = refl
+read-straight Misshapen m width offset = refl
+read-straight Unmapped m width offset = refl
+read-straight Unmodelled m width offset = refl
+read-straight Guarded m width offset = refl
+
+-- An answer put together from its parts is that of what an event left.
+pub shown : (d e : Done) (o : Outputs) (q : Request) (a : Answer) → d ≡ e → o ≡ outputs (d .state) →
+    q ≡ request (queue.asks (d .state .qspi)) (serial.asks (d .state .sci)) (d .state .qilr) (d .state .qivr) →
+    a
+    ≡ record {
+      refusal = d .refusal;
+      value = d .value;
+      levels = levels o;
+      mask = mask o;
+      level = q .level;
+      vector = q .vector;
+    } →
+    _≡_ {A = Stepped} (record { state = d .state; answer = a }) (answered e)
+unfolding answerOf
+shown d e o q a left pins asked given = rw (given, pins, asked, left)
