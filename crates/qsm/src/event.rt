@@ -182,8 +182,8 @@ impl Module {
     fn polls(self, supervisor: bool, width: u8, offset: u16) -> Done
         ensures { λ r. ⌜ r ≡ reads self supervisor width offset ⌝ }
     {
-        let d = self.decide_read(supervisor, width, offset);
-        self.polled(d, width, offset)
+        let decided = self.decide_read(supervisor, width, offset);
+        self.polled(decided, width, offset)
     }
 
     fn stored_by(self, width: u8, offset: u16, value: u32) -> Store
