@@ -1,5 +1,6 @@
 pub mod Clocks
 pub mod Ranges
+pub mod Limit
 pub mod Splitting
 pub mod Reading
 pub mod Straight
@@ -10,6 +11,7 @@ pub mod Requests
 pub mod PinOwners
 pub mod PinClauses
 pub mod Stored
+pub mod Counting
 pub mod Marks
 pub mod StatusBytes
 pub mod SeenClauses

@@ -63,6 +63,7 @@ with-request m refusal value r =
       mask = mask (outputs m);
       level = r .level;
       vector = r .vector;
+      clock = m .clock;
     }
 
 module _ (m : Module) (refusal value : ℕ) where

@@ -8,7 +8,7 @@ use Rattle.qsm.specs.Word.{put}
 use Rattle.qsm.specs.Lanes.{halves, upperLane, lowerLane, lined}
 use Rattle.qsm.specs.Access.{store, stored}
 use Rattle.qsm.specs.Decision.{permits, decideRead, storedBy, decideStored}
-use Rattle.qsm.specs.Event.{done, held, clocks, afterRead, readValue, refused, resets, holds, reads, writes, does, step}
+use Rattle.qsm.specs.Event.{done, passes, held, clocks, afterRead, readValue, refused, resets, holds, reads, writes, does, step}
 use Rattle.qsm.specs.State.{resetModule}
 use Rattle.qsm.specs.PinClauses.{LastInput}
 use Rattle.qsm.specs.declared.state.Module.{Module}
@@ -21,6 +21,7 @@ use Rattle.qsm.specs.declared.event.Access.the-variants.{Read, Write}
 use Rattle.qsm.specs.declared.event.Event.the-variants.{Reset, Hold}
 use Rattle.qsm.specs.declared.event.Event.the-variants as event
 use Rattle.qsm.proofs.Clocks.{apart}
+use Rattle.qsm.proofs.Limit.{hold-if}
 
 -- The module that a decided access leaves.
 pub state-if : (P : Module → Type 0) (p : Bool) (m n : Module) (x y z : ℕ) → (p ≡ true → P n) → (p ≡ false → P m) →
@@ -40,15 +41,15 @@ module _ (P : Module → Type 0) (keeps : (m : Module) (p : Place) (v : ℕ) (up
       stores (halves width) (upperLane width offset) (lowerLane width offset)
       (record { state = m; at = offset; words = lined width value; unmodelled = false; guarded = false }) h
 
--- The module's own words leave both halves and the last input.
+-- The module's own words leave both halves, the last input and the count of clocks.
 pub own-keeps : (m : Module) (w : OwnWord) (v : ℕ) (upper lower : Bool) →
     (putOwn m w v upper lower .sci ≡ m .sci) × (putOwn m w v upper lower .qspi ≡ m .qspi)
-    × (putOwn m w v upper lower .inputs ≡ m .inputs)
+    × (putOwn m w v upper lower .inputs ≡ m .inputs) × (putOwn m w v upper lower .clock ≡ m .clock)
 unfolding putOwn
-own-keeps m Qsmcr v upper lower = (refl, refl, refl)
-own-keeps m QilrQivr v upper lower = (refl, refl, refl)
-own-keeps m Portqs v upper lower = (refl, refl, refl)
-own-keeps m PqsparDdrqs v upper lower = (refl, refl, refl)
+own-keeps m Qsmcr v upper lower = (refl, refl, refl, refl)
+own-keeps m QilrQivr v upper lower = (refl, refl, refl, refl)
+own-keeps m Portqs v upper lower = (refl, refl, refl, refl)
+own-keeps m PqsparDdrqs v upper lower = (refl, refl, refl, refl)
 
 put-inputs : (m : Module) (p : Place) (v : ℕ) (upper lower : Bool) → put m p v upper lower .inputs ≡ m .inputs
 unfolding put
@@ -60,7 +61,9 @@ put-inputs m Hole v upper lower = refl
 pub last-input : LastInput
 unfolding step does resets resetModule holds clocks reads writes refused afterRead
 last-input m Reset = refl
-last-input m (Hold pins rxd n) = ap (λ (k : Module). k .inputs) (apart n rxd (held m pins))
+last-input m (Hold pins rxd n) =
+    hold-if (λ d. d .state .inputs ≡ cond (passes m n) (m .inputs) pins) m pins rxd n (λ h. rw h)
+    (λ h. rw h (ap (λ (k : Module). k .inputs) (apart n rxd (held m pins))))
 last-input m (event.Access (Read s w o)) =
     state-if (λ k. k .inputs ≡ m .inputs) (permits (decideRead m s w o)) m (afterRead m w o) 0 (readValue m w o) _ (λ h. refl)
     (λ h. refl)

@@ -88,6 +88,7 @@ pub shown : (d e : Done) (o : Outputs) (q : Request) (a : Answer) → d ≡ e �
       mask = mask o;
       level = q .level;
       vector = q .vector;
+      clock = d .state .clock;
     } →
     _≡_ {A = Stepped} (record { state = d .state; answer = a }) (answered e)
 unfolding answerOf

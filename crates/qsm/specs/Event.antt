@@ -1,6 +1,8 @@
--- Document 01: events and answers. An event is a reset, a hold or an access, and an access is a read or a write.
+-- Document 01: events and answers. An event is a reset, a hold or an access, and an access is a read or a write. With document 02, L9: the
+-- module counts its clocks since reset, and an answer shows the count.
 use mathlib.Core.Bool.{Bool, true, false, cond}
-use Prim.Native.Nat.{ℕ}
+use Prim.Native.Nat.{ℕ, suc, _+_, _-_, _^_}
+use lib.Dec.{ltb}
 use Rattle.steps.specs.Iterate.{iterate}
 use Rattle.sci.specs.Serial.{clocked}
 use Rattle.sci.specs.Serial as serial
@@ -28,7 +30,7 @@ use Rattle.qsm.specs.declared.event.Answer.{Answer}
 use Rattle.qsm.specs.declared.event.Done.{Done}
 use Rattle.qsm.specs.declared.event.Stepped.{Stepped}
 
--- An answer shows the pins and the request of the module that it leaves.
+-- An answer shows the pins, the request and the count of clocks of the module that it leaves.
 unfoldable pub answerOf : Module → ℕ → ℕ → Answer
 answerOf m refusal value =
     let asked : Request = request (queue.asks (m .qspi)) (serial.asks (m .sci)) (m .qilr) (m .qivr) in
@@ -39,6 +41,7 @@ answerOf m refusal value =
       mask = mask (outputs m);
       level = asked .level;
       vector = asked .vector;
+      clock = m .clock;
     }
 
 -- What an event leaves, with the refusal's number and the value read; and its answer.
@@ -52,7 +55,7 @@ answered d = record { state = d .state; answer = answerOf (d .state) (d .refusal
 abbrev pub pinsOf : Module → Pins
 pinsOf m = record { levels = m .inputs; pqspar = m .pqspar; ddrqs = m .ddrqs }
 
--- Each clock: pins, mode fault, queue, then on a sample transmitter before receiver.
+-- Each clock: pins, mode fault, queue, then on a sample transmitter before receiver. It is counted.
 unfoldable pub clockModule : Bool → Module → Module
 clockModule rxd m =
     record {
@@ -65,6 +68,7 @@ clockModule rxd m =
       pqspar = m .pqspar;
       ddrqs = m .ddrqs;
       inputs = m .inputs;
+      clock = suc (m .clock);
     }
 
 unfoldable pub clocks : Module → Bool → ℕ → Module
@@ -83,6 +87,7 @@ held m pins =
       pqspar = m .pqspar;
       ddrqs = m .ddrqs;
       inputs = pins;
+      clock = m .clock;
     }
 
 -- What a read leaves: it minds only SCSR (either byte), SCDR's low byte and SPSR.
@@ -110,8 +115,15 @@ writeDecided d m s = cond (permits d) (done (s .state) 0 0) (refused d m)
 unfoldable pub resets : Done
 resets = done resetModule 0 0
 
+-- 10: a hold that would pass 2^64 - 1 clocks since reset. Nothing changes, its levels included.
+abbrev pub clockLimit : ℕ
+clockLimit = 2 ^ 64 - 1
+
+abbrev pub passes : Module → ℕ → Bool
+passes m n = ltb clockLimit (m .clock + n)
+
 unfoldable pub holds : Module → ℕ → Bool → ℕ → Done
-holds m pins rxd n = done (clocks (held m pins) rxd n) 0 0
+holds m pins rxd n = cond (passes m n) (done m 10 0) (done (clocks (held m pins) rxd n) 0 0)
 
 unfoldable pub reads : Module → Bool → ℕ → ℕ → Done
 reads m supervisor width offset = readDecided (decideRead m supervisor width offset) m width offset

@@ -11,6 +11,7 @@ pub mod Access
 pub mod Decision
 pub mod Event
 pub mod Holds
+pub mod Count
 pub mod StatusFlags
 pub mod RequestClauses
 pub mod PinClauses

@@ -31,6 +31,7 @@ putQsmcr m v upper lower =
       pqspar = m .pqspar;
       ddrqs = m .ddrqs;
       inputs = m .inputs;
+      clock = m .clock;
     }
 
 -- QILR has six bits; bit 0 of QIVR reads 1.
@@ -46,6 +47,7 @@ withInterrupts m w =
       pqspar = m .pqspar;
       ddrqs = m .ddrqs;
       inputs = m .inputs;
+      clock = m .clock;
     }
 
 abbrev pub putInterrupts : Module → ℕ → Bool → Bool → Module
@@ -64,6 +66,7 @@ putPortqs m v lower =
       pqspar = m .pqspar;
       ddrqs = m .ddrqs;
       inputs = m .inputs;
+      clock = m .clock;
     }
 
 -- PQSPAR has bits 6:3 and 1:0.
@@ -79,6 +82,7 @@ withDirections m w =
       pqspar = w / 2048 % 16 * 8 + w / 256 % 4;
       ddrqs = w % 256;
       inputs = m .inputs;
+      clock = m .clock;
     }
 
 abbrev pub putDirections : Module → ℕ → Bool → Bool → Module

@@ -8,7 +8,7 @@ use Rattle.sci.specs.Transmitter.{runs}
 use Rattle.sci.specs.Serial.{txd}
 use Rattle.qspi.specs.Outputs.{sck, pcs}
 use Rattle.qspi.specs.declared.Qspi.{Qspi}
-use Rattle.qsm.specs.Event.{step}
+use Rattle.qsm.specs.Event.{passes, step}
 use Rattle.qsm.specs.StatusFlags.{readAt}
 use Rattle.qsm.specs.declared.state.Module.{Module}
 use Rattle.qsm.specs.declared.event.Access.{Access}
@@ -78,11 +78,11 @@ pub record PinClauses (m : Module) (a : Answer) : Type 0 where
   -- PORTQS (byte 15) reads driven levels, else the last input.
   pub reads : (k : ℕ) → k < 8 → bit k (readAt m 1 0x15) ≡ cond (driven a k) (high a k) (bit k (m .inputs))
 
--- The last input: a hold's levels, 0 from a reset to a hold; an access leaves it.
-abbrev pub lastInput : Event → ℕ → ℕ
-lastInput Reset before = 0
-lastInput (Hold pins rxd n) before = pins
-lastInput (event.Access a) before = before
+-- The last input: a hold's levels, 0 from a reset to a hold; an access leaves it, and so does a hold refused 10.
+abbrev pub lastInput : Module → Event → ℕ
+lastInput m Reset = 0
+lastInput m (Hold pins rxd n) = cond (passes m n) (m .inputs) pins
+lastInput m (event.Access a) = m .inputs
 
 abbrev pub LastInput : Type 0
-LastInput = (m : Module) (e : Event) → step m e .state .inputs ≡ lastInput e (m .inputs)
+LastInput = (m : Module) (e : Event) → step m e .state .inputs ≡ lastInput m e

@@ -6,7 +6,7 @@ use Rattle.qspi.specs.Registers.{reset}
 use Rattle.qspi.specs.declared.Qspi.{Qspi}
 use Rattle.qsm.specs.declared.state.Module.{Module}
 
--- QSMCR 0080, QILR 00, QIVR 0F; pins 0, and their last input 0 until a hold.
+-- QSMCR 0080, QILR 00, QIVR 0F; pins 0, and their last input 0 until a hold; no clock counted (02, L9).
 unfoldable pub resetModule : Module
 resetModule =
     record {
@@ -19,6 +19,7 @@ resetModule =
       pqspar = 0;
       ddrqs = 0;
       inputs = 0;
+      clock = 0;
     }
 
 abbrev pub withSci : Module → Sci → Module
@@ -33,6 +34,7 @@ withSci m s =
       pqspar = m .pqspar;
       ddrqs = m .ddrqs;
       inputs = m .inputs;
+      clock = m .clock;
     }
 
 abbrev pub withQspi : Module → Qspi → Module
@@ -47,4 +49,5 @@ withQspi m q =
       pqspar = m .pqspar;
       ddrqs = m .ddrqs;
       inputs = m .inputs;
+      clock = m .clock;
     }

@@ -1,11 +1,12 @@
 // Events, answers and the step: reset, hold, read and write.
 ghost use mathlib.Core.Path.{_≡_};
+ghost use Prim.Native.Nat.{_+_, _≤_};
 ghost use Rattle.sci.specs.Serial as serial;
 ghost use Rattle.qspi.specs.Outputs as queue;
 ghost use Rattle.qsm.specs.Pins.{mask, levels};
 ghost use Rattle.qsm.specs.Request.{request};
 ghost use Rattle.qsm.specs.Decision.{storedBy};
-ghost use Rattle.qsm.specs.Event.{answerOf, done, refused, answered, clocks, held, afterRead, readValue, readDecided, writeDecided, resets, holds, reads, writes, accesses, does, step};
+ghost use Rattle.qsm.specs.Event.{answerOf, done, refused, answered, clockLimit, passes, clocks, held, afterRead, readValue, readDecided, writeDecided, resets, holds, reads, writes, accesses, does, step};
 use crate::access::Store;
 use crate::decision::Decision;
 use crate::decision::permits;
@@ -37,7 +38,8 @@ pub enum Event {
     Access(Access),
 }
 
-// The refusal's number or 0, the value read, the driven levels and which pins are driven, the request's level and its vector.
+// The refusal's number or 0, the value read, the driven levels and which pins are driven, the request's level and its vector, and the
+// clocks since reset.
 #[repr(C)]
 pub struct Answer {
     pub refusal: u8,
@@ -46,6 +48,7 @@ pub struct Answer {
     pub mask: u8,
     pub level: u8,
     pub vector: u8,
+    pub clock: u64,
 }
 
 // What an event leaves, before its answer.
@@ -77,8 +80,16 @@ impl Module {
         self.done(refusal_of(d), 0)
     }
 
+    // Whether so many clocks more would pass 2^64 - 1.
+    fn passes(self, n: u32) -> bool
+        ensures { λ r. ⌜ r ≡ passes self n ⌝ }
+    {
+        0xFFFFFFFFFFFFFFFF - (n as u64) < self.clock
+    }
+
     // So many clocks at the levels of the last hold and a level on RXD. The halves don't depend on each other within a hold.
     fn clocks(mut self, rxd: bool, n: u32) -> Module
+        requires { ⌜ self .clock + n ≤ clockLimit ⌝ }
         ensures { λ r. ⌜ r ≡ clocks self rxd n ⌝ }
     {
         let pins = qspi::Pins {
@@ -92,6 +103,7 @@ impl Module {
         let serial = sci.clocks(n, rxd);
         self.qspi = queue;
         self.sci = serial;
+        self.clock += n as u64;
         self
     }
 
@@ -155,7 +167,11 @@ impl Module {
     fn holds(self, pins: u8, rxd: bool, clocks: u32) -> Done
         ensures { λ r. ⌜ r ≡ holds self pins rxd clocks ⌝ }
     {
-        self.held(pins).clocks(rxd, clocks).done(0, 0)
+        if self.passes(clocks) {
+            self.done(10, 0)
+        } else {
+            self.held(pins).clocks(rxd, clocks).done(0, 0)
+        }
     }
 
     fn reads(self, supervisor: bool, width: u8, offset: u16) -> Done
@@ -240,8 +256,8 @@ fn asked_of(m: Module) -> Request
     request_of(qspi.asks(), sci.asks(), m.qilr, m.qivr)
 }
 
-fn answer_of(pins: Outputs, asked: Request, refusal: u8, value: u32) -> Answer
-    ensures { λ r. ⌜ r ≡ record { refusal = refusal; value = value; levels = levels pins; mask = mask pins; level = asked .level; vector = asked .vector } ⌝ }
+fn answer_of(pins: Outputs, asked: Request, clock: u64, refusal: u8, value: u32) -> Answer
+    ensures { λ r. ⌜ r ≡ record { refusal = refusal; value = value; levels = levels pins; mask = mask pins; level = asked .level; vector = asked .vector; clock = clock } ⌝ }
 {
     Answer {
         refusal,
@@ -250,6 +266,7 @@ fn answer_of(pins: Outputs, asked: Request, refusal: u8, value: u32) -> Answer
         mask: pins.mask(),
         level: asked.level,
         vector: asked.vector,
+        clock,
     }
 }
 
@@ -258,7 +275,13 @@ impl Done {
         ensures { λ r. ⌜ r ≡ answerOf (self .state) (self .refusal) (self .value) ⌝ }
     {
         let state = self.state;
-        answer_of(outputs_of(state), asked_of(state), self.refusal, self.value)
+        answer_of(
+            outputs_of(state),
+            asked_of(state),
+            state.clock,
+            self.refusal,
+            self.value,
+        )
     }
 
     fn with(self, answer: Answer) -> Stepped
@@ -277,7 +300,7 @@ pub fn reset() -> Stepped
     d.with(d.answer())
 }
 
-// Ruled out: only the first clock played; the levels of the hold before it.
+// Ruled out: only the first clock played; the levels of the hold before it; a count past 2^64 - 1 that begins at 0 again.
 pub fn hold(m: Module, pins: u8, rxd: bool, clocks: u32) -> Stepped
     ensures { λ r. ⌜ r ≡ answered (holds m pins rxd clocks) ⌝ }
 {
@@ -291,7 +314,13 @@ pub fn read(m: Module, supervisor: bool, width: u8, offset: u16) -> Stepped
 {
     let d = m.polls(supervisor, width, offset);
     let state = d.state;
-    let answer = answer_of(outputs_of(state), asked_of(state), d.refusal, d.value);
+    let answer = answer_of(
+        outputs_of(state),
+        asked_of(state),
+        state.clock,
+        d.refusal,
+        d.value,
+    );
     Stepped { state, answer }
 }
 

@@ -16,10 +16,12 @@ pub struct Module {
     pub ddrqs: u8,
     // The pin levels of the last hold; 0 from a reset to a hold.
     pub inputs: u8,
+    // The clocks since reset; before any reset, since the start.
+    pub clock: u64,
 }
 
 impl Module {
-    // Ruled out: SUPV clear; a half kept.
+    // Ruled out: SUPV clear; a half kept; the count of clocks kept.
     pub fn reset() -> Module
         ensures { λ r. ⌜ r ≡ resetModule ⌝ }
     {
@@ -33,6 +35,7 @@ impl Module {
             pqspar: 0,
             ddrqs: 0,
             inputs: 0,
+            clock: 0,
         }
     }
 

@@ -6,7 +6,7 @@ use Rattle.qsm.proofs.state.Module.clocks.Tie as tie
 
 returns : tie.Need-returns
 unfolding clocks
-returns c = rw (c .clocks2 .ensures, c .before .clocks .ensures, apart)
+returns c = rw (c .before .clocks2 .ensures, c .before .before .clocks .ensures, apart)
 
 pub clocks-spec : {M : Type 1} → statement M
-clocks-spec = tie.close (tie.spec (λ c κs. search needs) (λ c κs. search needs) returns)
+clocks-spec = tie.close (tie.spec (λ c κs. search needs) (λ c κs. search needs) (λ c. search needs) returns)
