@@ -1,12 +1,13 @@
 -- The invariant of `play`'s loop, and what each way out of a turn makes of it. Assumes nothing.
 use mathlib.Core.Path.{_≡_, refl, sym, ap, subst, _∙_}
+use mathlib.Core.Bool.{true, false}
 use mathlib.Core.Logic.{inl, inr}
 use mathlib.Core.List.{List, [], _∷_, _++_, append-assoc, append-nil, flatten}
 use Prim.Native.Nat.{ℕ, _+_, _-_, _*_, _<_, _≤_}
 use native.Mathlib.Omega.{arith}
 use lib.ListN.{length, take, drop, take-append-drop, length-append, length-drop, drop-of-length-le}
 use lib.Seq.{length-take-le, take-at, drop-at, drop-drop, take-all}
-use borrow.Author.Tests.{lt-ltb}
+use borrow.Author.Tests.{lt-ltb, le-ltb, eq-eqb, ne-eqb}
 use borrow.Rule.Slice.PartMut.{putMid}
 use types.Run.{OneOf}
 use denote.Enum.Declared.{tagOf}
@@ -14,7 +15,8 @@ use Rattle.qsm.specs.declared.state.Module.{Module}
 use Rattle.qsm.specs.declared.event.Event.{Event}
 use Rattle.qsm.specs.declared.event.Stepped.{Stepped}
 use Rattle.qsm.specs.Event.{step}
-use Rattle.trace.specs.Trace.{everyKind, parsed, answerLength, answerBytes}
+use Rattle.qsm.specs.Count.{limited}
+use Rattle.trace.specs.Trace.{parsed, answerLength, answerBytes, reader}
 use Rattle.trace.specs.Play.{Outcome, stopNumber, refusalOf, stopped, answered, followed, turn, play, Plays}
 use Rattle.trace.specs.declared.Parsed.{Parsed}
 use Rattle.trace.specs.declared.Parsed.the-variants.{Record, Unknown, Cut}
@@ -56,7 +58,7 @@ unfolding flatten
 flatten-snoc [] r = simp (append-nil) (omega arith)
 flatten-snoc (s ∷ rs) r = simp (length-append, flatten-snoc rs r) (omega arith)
 
-refused : (m : Module) (t : List ℕ) (room : ℕ) (p : Parsed) → OneOf (1 ∷ 2 ∷ []) (tagOf P.the-type p) → turn play m t room p ≡ stopped m (refusalOf p)
+refused : (m : Module) (t : List ℕ) (room : ℕ) (p : Parsed) → OneOf (1 ∷ 2 ∷ []) (tagOf P.the-type p) → turn reader play m t room p ≡ stopped m (refusalOf p)
 refused m t room (Record e n) (inl h) = absurd (omega arith)
 refused m t room (Record e n) (inr h) = absurd (omega arith)
 refused m t room Unknown h = refl
@@ -120,7 +122,7 @@ module _ (t out₀ : List ℕ) (m₀ : Module) (out : List ℕ) (m : Module) (at
 
   -- At the end of the trace.
   pub at-end : (why : Stop) → length t ≤ at → stopNumber why ≡ 0 → Left why
-  at-end why le is = leaves why (play-none everyKind m (drop at t) room (simp length-drop (omega arith)) ∙ ap (stopped m) (sym is))
+  at-end why le is = leaves why (play-none reader m (drop at t) room (simp length-drop (omega arith)) ∙ ap (stopped m) (sym is))
 
   module _ (lt : at < length t) where
     some : 0 < length (drop at t)
@@ -130,7 +132,7 @@ module _ (t out₀ : List ℕ) (m₀ : Module) (out : List ℕ) (m : Module) (at
     pub at-refusal : (p : Parsed) (why : Stop) → p ≡ parsed (take (length t - at) (drop at t)) → OneOf (1 ∷ 2 ∷ []) (tagOf P.the-type p)
         → stopNumber why ≡ refusalOf p → Left why
     at-refusal p why is keys e =
-        leaves why (unroll everyKind m (drop at t) room some ∙ ap (turn play m (drop at t) room) (sym (is ∙ ap parsed (rest t at)))
+        leaves why (unroll reader m (drop at t) room some ∙ ap (turn reader play m (drop at t) room) (sym (is ∙ ap parsed (rest t at)))
         ∙ refused m (drop at t) room p keys ∙ ap (stopped m) (sym e))
 
     module _ (p : Parsed) (e : Event) (n : ℕ) (is : p ≡ parsed (take (length t - at) (drop at t))) (whole : p ≡ Record e n) where
@@ -143,13 +145,21 @@ module _ (t out₀ : List ℕ) (m₀ : Module) (out : List ℕ) (m : Module) (at
       -- Before a record whose answer has no room.
       pub at-full : (why : Stop) → room < answerLength → stopNumber why ≡ 7 → Left why
       at-full why full e =
-          leaves why (unroll everyKind m (drop at t) room some ∙ ap (turn play m (drop at t) room) here ∙ simp (lt-ltb room answerLength full) (ap (stopped m) (sym e)))
+          leaves why (unroll reader m (drop at t) room some ∙ ap (turn reader play m (drop at t) room) here ∙ simp (lt-ltb room answerLength full) (ap (stopped m) (sym e)))
+
+      -- Before a hold that would pass 2^64 - 1 clocks.
+      pub at-limit : (why : Stop) (s : Stepped) → answerLength ≤ room → s ≡ step m e → s .answer .refusal ≡ 10 → stopNumber why ≡ 10 → Left why
+      at-limit why s has is-step is-10 is-why =
+          let over : limited m e ≡ true = eq-eqb (step m e .answer .refusal) 10 (ap (λ (s : Stepped). s .answer .refusal) (sym is-step) ∙ is-10) in
+          leaves why (unroll reader m (drop at t) room some ∙ ap (turn reader play m (drop at t) room) here
+          ∙ simp (le-ltb room answerLength has, over) (ap (stopped m) (sym is-why)))
 
       -- Past a record: its answer is written, and the trace goes on.
-      pub goes-on : (s : Stepped) (part : List ℕ) → answerLength ≤ room → s ≡ step m e
+      pub goes-on : (s : Stepped) (part : List ℕ) → answerLength ≤ room → s ≡ step m e → (s .answer .refusal ≡ 10 → ⊥)
           → part ≡ answerBytes (s .answer) ++ drop answerLength (take room (drop put out))
           → Going t out₀ m₀ (putMid put room out part) (s .state) (at + n) (put + answerLength)
-      goes-on s part has is-step wrote-is =
+      goes-on s part has is-step not-10 wrote-is =
+          let free : limited m e ≡ false = ne-eqb (step m e .answer .refusal) 10 (λ z. not-10 (ap (λ (s : Stepped). s .answer .refusal) is-step ∙ z)) in
           let bs = answerBytes (s .answer) in
           let r = take n (drop at t) in
           let w = record-within (drop at t) here in
@@ -157,7 +167,7 @@ module _ (t out₀ : List ℕ) (m₀ : Module) (out : List ℕ) (m : Module) (at
           let fits : put + answerLength ≤ length out = omega (arith, g .within) in
           let left : length out - put - answerLength ≡ length out - (put + answerLength) = omega arith in
           let next : play m (drop at t) room ≡ followed one (play (s .state) (drop n (drop at t)) (room - answerLength)) =
-          one-on everyKind m (drop at t) room e n here has ∙ simp is-step in
+          one-on reader m (drop at t) room e n here has free ∙ simp is-step in
           subst (λ (l : List ℕ). Going t out₀ m₀ l (s .state) (at + n) (put + answerLength)) (sym (lent out put bs answerLength refl fits part wrote-is))
           (record {
             done = followed (g .done) one;

@@ -10,11 +10,11 @@ use lib.Seq.{length-take-le, take-append-le, drop-append-le, drop-drop, take-at,
 use Rattle.qsm.specs.declared.state.Module.{Module}
 use Rattle.qsm.specs.declared.event.Event.{Event}
 use Rattle.qsm.specs.Event.{step}
-use Rattle.trace.specs.Trace.{byteAt, byKind, everyKind, parsed, answerLength}
+use Rattle.trace.specs.Trace.{byteAt, byKind, parsed, answerLength, reader}
 use Rattle.trace.specs.Play.{Outcome, answered, followed, play}
 use Rattle.trace.specs.declared.Parsed.{Parsed}
 use Rattle.trace.specs.declared.Parsed.the-variants.{Record, Unknown, Cut}
-use Rattle.trace.specs.Laws.{unknown, recordLength, Each, KnownAndWhole, TenBytesEach, AnswersFit, unread, RecordsRead, ReadToTheEnd, withStop, EarlierStand, Resumes, InParts, streamed, bytesOf, Streams}
+use Rattle.trace.specs.Laws.{unknown, recordLength, Each, KnownAndWhole, BytesEach, AnswersFit, unread, RecordsRead, ReadToTheEnd, withStop, EarlierStand, Resumes, InParts, streamed, bytesOf, Streams}
 use Rattle.trace.proofs.Playing.{play-none, one-on, followed-assoc, record-kept, record-alone, kind-told, played}
 
 -- A record that was parsed is not of an unknown kind, and as long as its kind says.
@@ -48,21 +48,21 @@ known-by-kind t =
 
 pub known-and-whole : KnownAndWhole
 known-and-whole =
-    played everyKind (λ m t room o. Each (λ r. (unknown r ≡ false) × (length r ≡ recordLength r)) (o .records)) (λ m t room why end. tt)
-    (λ m t room e n o is pos le fits h.
+    played reader (λ m t room o. Each (λ r. (unknown r ≡ false) × (length r ≡ recordLength r)) (o .records)) (λ m t room why end. tt)
+    (λ m t room e n o is pos le fits free h.
     let r = take n t in
     let k = subst (Known (unknown r) (recordLength r)) (kind-told r r (record-alone t is)) (known-by-kind r) in
     ((k .0, length-take-le n t le ∙ k .1), h))
 
-pub ten-bytes-each : TenBytesEach
-ten-bytes-each =
-    played everyKind (λ m t room o. length (o .answers) ≡ answerLength * length (o .records)) (λ m t room why end. omega arith)
-    (λ m t room e n o is pos le fits h. omega (arith, h))
+pub bytes-each : BytesEach
+bytes-each =
+    played reader (λ m t room o. length (o .answers) ≡ answerLength * length (o .records)) (λ m t room why end. omega arith)
+    (λ m t room e n o is pos le fits free h. omega (arith, h))
 
 pub answers-fit : AnswersFit
 answers-fit =
-    played everyKind (λ m t room o. length (o .answers) ≤ room) (λ m t room why end. omega arith)
-    (λ m t room e n o is pos le fits h. omega (arith, h))
+    played reader (λ m t room o. length (o .answers) ≤ room) (λ m t room why end. omega arith)
+    (λ m t room e n o is pos le fits free h. omega (arith, h))
 
 -- What one record and what follows it leave is what the latter leaves of the rest.
 pub unread-next : (m : Module) (t : List ℕ) (e : Event) (n : ℕ) (o : Outcome) → n ≤ length t → unread (followed (answered (step m e) (take n t)) o) t ≡ unread o (drop n t)
@@ -74,8 +74,8 @@ unread-next m t e n o le =
 pub records-read : RecordsRead
 unfolding flatten
 records-read =
-    played everyKind (λ m t room o. flatten (o .records) ++ unread o t ≡ t) (λ m t room why end. refl)
-    (λ m t room e n o is pos le fits h.
+    played reader (λ m t room o. flatten (o .records) ++ unread o t ≡ t) (λ m t room why end. refl)
+    (λ m t room e n o is pos le fits free h.
     append-assoc (take n t) (flatten (o .records)) _ ∙ ap (λ (l : List ℕ). take n t ++ (flatten (o .records) ++ l)) (unread-next m t e n o le)
     ∙ ap (λ (l : List ℕ). take n t ++ l) h ∙ take-append-drop n t)
 
@@ -86,29 +86,29 @@ nothing (x ∷ t) h = absurd (omega arith)
 pub read-to-the-end : ReadToTheEnd
 unfolding flatten
 read-to-the-end =
-    played everyKind (λ m t room o. o .stop ≡ 0 → flatten (o .records) ≡ t) (λ m t room why end z. nothing t (end z))
-    (λ m t room e n o is pos le fits h z. ap (λ (l : List ℕ). take n t ++ l) (h z) ∙ take-append-drop n t)
+    played reader (λ m t room o. o .stop ≡ 0 → flatten (o .records) ≡ t) (λ m t room why end z. nothing t (end z))
+    (λ m t room e n o is pos le fits free h z. ap (λ (l : List ℕ). take n t ++ l) (h z) ∙ take-append-drop n t)
 
 pub earlier-stand : EarlierStand
 unfolding flatten
 earlier-stand =
-    played everyKind (λ m t room o. play m (flatten (o .records)) room ≡ withStop 0 o) (λ m t room why end. play-none everyKind m [] room refl)
-    (λ m t room e n o is pos le fits h.
+    played reader (λ m t room o. play m (flatten (o .records)) room ≡ withStop 0 o) (λ m t room why end. play-none reader m [] room refl)
+    (λ m t room e n o is pos le fits free h.
     let r = take n t in
     let rs = flatten (o .records) in
-    one-on everyKind m (r ++ rs) room e n (record-kept r rs (record-alone t is)) fits
+    one-on reader m (r ++ rs) room e n (record-kept r rs (record-alone t is)) fits free
     ∙ simp (take-at r rs n (length-take-le n t le), drop-at r rs n (length-take-le n t le)) (ap (followed (answered (step m e) r)) h))
 
 pub resumes : Resumes
 unfolding flatten
 resumes m t u room more =
-    played everyKind
+    played reader
     (λ m t room o. play m (t ++ u) (length (o .answers) + more) ≡ followed o (play (o .state) (unread o t ++ u) more))
     (λ m t room why end. let none : 0 + more ≡ more = omega arith in ap (play m (t ++ u)) none)
-    (λ m t room e n o is pos le fits h.
+    (λ m t room e n o is pos le fits free h.
     let a = answered (step m e) (take n t) in
     let left : length (followed a o .answers) + more - answerLength ≡ length (o .answers) + more = omega arith in
-    one-on everyKind m (t ++ u) _ e n (record-kept t u is) (omega arith)
+    one-on reader m (t ++ u) _ e n (record-kept t u is) (omega arith) free
     ∙ simp (take-append-le n t u le, drop-append-le n t u le, left) (ap (followed a) h)
     ∙ sym (followed-assoc a o (play (o .state) (unread o (drop n t) ++ u) more))
     ∙ ap (λ (l : List ℕ). followed (followed a o) (play (o .state) (l ++ u) more)) (sym (unread-next m t e n o le)))
@@ -144,4 +144,4 @@ read-within m t room =
     omega (arith, ap length (records-read m t room), length-append (flatten (o .records)) (unread o t))
 
 pub written-within : (m : Module) (t : List ℕ) (room : ℕ) → answerLength * length (play m t room .records) ≤ room
-written-within m t room = omega (arith, ten-bytes-each m t room, answers-fit m t room)
+written-within m t room = omega (arith, bytes-each m t room, answers-fit m t room)

@@ -1,4 +1,5 @@
 pub mod Playing
 pub mod Laws
+pub mod Forms
 pub mod LongHolds
 pub mod Going

@@ -12,8 +12,9 @@ use borrow.Author.Tests.{le-ltb, ltb-false, eq-eqb, ne-eqb, eqb-true, eqb-false}
 use Rattle.qsm.specs.declared.state.Module.{Module}
 use Rattle.qsm.specs.declared.event.Event.{Event}
 use Rattle.qsm.specs.Event.{step}
-use Rattle.trace.specs.Trace.{byteAt, whole, resetKind, holdKind, readKind, writeKind, longHoldKind, byKind, everyKind, parsedBy, parsed, answerLength}
-use Rattle.trace.specs.Play.{Outcome, stopped, answered, followed, turn, playFor, playBy}
+use Rattle.qsm.specs.Count.{limited}
+use Rattle.trace.specs.Trace.{byteAt, whole, resetKind, holdKind, readKind, writeKind, longHoldKind, byKind, everyKind, parsedBy, parsed, Reader}
+use Rattle.trace.specs.Play.{Outcome, stopped, answeredBy, followed, turn, playFor, playBy}
 use Rattle.trace.specs.declared.Parsed.{Parsed}
 use Rattle.trace.specs.declared.Parsed.the-variants.{Record, Unknown, Cut}
 
@@ -58,51 +59,51 @@ taken takes t {e} {n} = go (eqb (length t) 0) (takes (byteAt t 0)) (byKind (byte
 
 -- ---- the count of records never runs out
 
-turn-same : (f g : Module → List ℕ → ℕ → Outcome) (m : Module) (t : List ℕ) (room : ℕ) (p : Parsed) → Sized t p
-    → ((m′ : Module) (n room′ : ℕ) → 0 < n → f m′ (drop n t) room′ ≡ g m′ (drop n t) room′) → turn f m t room p ≡ turn g m t room p
-turn-same f g m t room (Record e n) s h =
-    ap (λ (o : Outcome). cond (ltb room answerLength) (stopped m 7) (followed (answered (step m e) (take n t)) o))
-    (h (step m e .state) n (room - answerLength) (s .0))
-turn-same f g m t room Unknown s h = refl
-turn-same f g m t room Cut s h = refl
+turn-same : (R : Reader) (f g : Module → List ℕ → ℕ → Outcome) (m : Module) (t : List ℕ) (room : ℕ) (p : Parsed) → Sized t p
+    → ((m′ : Module) (n room′ : ℕ) → 0 < n → f m′ (drop n t) room′ ≡ g m′ (drop n t) room′) → turn R f m t room p ≡ turn R g m t room p
+turn-same R f g m t room (Record e n) s h =
+    ap (λ (o : Outcome). cond (ltb room (R .size)) (stopped m 7) (cond (limited m e) (stopped m 10) (followed (answeredBy R (step m e) (take n t)) o)))
+    (h (step m e .state) n (room - R .size) (s .0))
+turn-same R f g m t room Unknown s h = refl
+turn-same R f g m t room Cut s h = refl
 
 pub otherwise : {A : Type 0} (b : Bool) (x : A) {y : A} → b ≡ false → cond b x y ≡ y
 otherwise true x h = absurd (true≢false h)
 otherwise false x h = refl
 
-module _ (takes : ℕ → Bool) where
-  enough : (k j : ℕ) (m : Module) (t : List ℕ) (room : ℕ) → length t ≤ k → length t ≤ j → playFor takes k m t room ≡ playFor takes j m t room
+module _ (R : Reader) where
+  enough : (k j : ℕ) (m : Module) (t : List ℕ) (room : ℕ) → length t ≤ k → length t ≤ j → playFor R k m t room ≡ playFor R j m t room
   unfolding playFor
   enough zero zero m t room h i = refl
   enough zero (suc j) m t room h i = simp (eq-eqb (length t) 0 (omega arith))
   enough (suc k) zero m t room h i = simp (eq-eqb (length t) 0 (omega arith))
   enough (suc k) (suc j) m t room h i =
       ap (cond (eqb (length t) 0) (stopped m 0))
-      (turn-same (playFor takes k) (playFor takes j) m t room (parsedBy takes t) (sized takes t)
+      (turn-same R (playFor R k) (playFor R j) m t room (parsedBy (R .takes) t) (sized (R .takes) t)
       (λ m′ n room′ pos. enough k j m′ (drop n t) room′ (simp length-drop (omega arith)) (simp length-drop (omega arith))))
 
-  unrolled : (k : ℕ) (m : Module) (t : List ℕ) (room : ℕ) → 0 < length t → length t ≤ k → playFor takes k m t room ≡ turn (playBy takes) m t room (parsedBy takes t)
+  unrolled : (k : ℕ) (m : Module) (t : List ℕ) (room : ℕ) → 0 < length t → length t ≤ k → playFor R k m t room ≡ turn R (playBy R) m t room (parsedBy (R .takes) t)
   unfolding playFor
   unrolled zero m t room pos h = absurd (omega arith)
   unrolled (suc k) m t room pos h =
       otherwise (eqb (length t) 0) (stopped m 0) (ne-eqb (length t) 0 (λ z. omega arith))
-      ∙ (turn-same (playFor takes k) (playBy takes) m t room (parsedBy takes t) (sized takes t)
+      ∙ (turn-same R (playFor R k) (playBy R) m t room (parsedBy (R .takes) t) (sized (R .takes) t)
       (λ m′ n room′ less. enough k (length (drop n t)) m′ (drop n t) room′ (simp length-drop (omega arith)) (omega arith)))
 
   -- One record on.
-  pub unroll : (m : Module) (t : List ℕ) (room : ℕ) → 0 < length t → playBy takes m t room ≡ turn (playBy takes) m t room (parsedBy takes t)
+  pub unroll : (m : Module) (t : List ℕ) (room : ℕ) → 0 < length t → playBy R m t room ≡ turn R (playBy R) m t room (parsedBy (R .takes) t)
   unroll m t room pos = unrolled (length t) m t room pos (omega arith)
 
-  pub play-none : (m : Module) (t : List ℕ) (room : ℕ) → length t ≡ 0 → playBy takes m t room ≡ stopped m 0
+  pub play-none : (m : Module) (t : List ℕ) (room : ℕ) → length t ≡ 0 → playBy R m t room ≡ stopped m 0
   unfolding playFor
   play-none m t room none = rw none
 
   -- A record and what follows it, one record on.
-  pub one-on : (m : Module) (t : List ℕ) (room : ℕ) (e : Event) (n : ℕ) → parsedBy takes t ≡ Record e n → answerLength ≤ room
-      → playBy takes m t room ≡ followed (answered (step m e) (take n t)) (playBy takes (step m e .state) (drop n t) (room - answerLength))
-  one-on m t room e n is fits =
-      let w = record-within t (taken takes t is) in
-      unroll m t room (omega (arith, w)) ∙ ap (turn (playBy takes) m t room) is ∙ simp (le-ltb room answerLength fits)
+  pub one-on : (m : Module) (t : List ℕ) (room : ℕ) (e : Event) (n : ℕ) → parsedBy (R .takes) t ≡ Record e n → R .size ≤ room → limited m e ≡ false
+      → playBy R m t room ≡ followed (answeredBy R (step m e) (take n t)) (playBy R (step m e .state) (drop n t) (room - R .size))
+  one-on m t room e n is fits free =
+      let w = record-within t (taken (R .takes) t is) in
+      unroll m t room (omega (arith, w)) ∙ ap (turn R (playBy R) m t room) is ∙ simp (le-ltb room (R .size) fits, free)
 
 pub followed-assoc : (o p q : Outcome) → followed (followed o p) q ≡ followed o (followed p q)
 followed-assoc o p q = simp append-assoc
@@ -171,20 +172,27 @@ record-alone t {e} {n} is =
 -- ---- induction over what is played
 
 -- What holds of a trace that stops at once, and of one record and what follows it, holds of every trace.
-module _ (takes : ℕ → Bool) (P : Module → List ℕ → ℕ → Outcome → Type 0)
+module _ (R : Reader) (P : Module → List ℕ → ℕ → Outcome → Type 0)
     (stops : (m : Module) (t : List ℕ) (room why : ℕ) → (why ≡ 0 → length t ≡ 0) → P m t room (stopped m why))
-    (goes : (m : Module) (t : List ℕ) (room : ℕ) (e : Event) (n : ℕ) (o : Outcome) → parsedBy takes t ≡ Record e n → 0 < n → n ≤ length t → answerLength ≤ room
-    → P (step m e .state) (drop n t) (room - answerLength) o → P m t room (followed (answered (step m e) (take n t)) o)) where
-  by-room : (b : Bool) (m : Module) (t : List ℕ) (room : ℕ) (o : Outcome) → b ≡ ltb room answerLength → (answerLength ≤ room → P m t room o)
+    (goes : (m : Module) (t : List ℕ) (room : ℕ) (e : Event) (n : ℕ) (o : Outcome) → parsedBy (R .takes) t ≡ Record e n → 0 < n → n ≤ length t → R .size ≤ room
+    → limited m e ≡ false → P (step m e .state) (drop n t) (room - R .size) o → P m t room (followed (answeredBy R (step m e) (take n t)) o)) where
+  by-room : (b : Bool) (m : Module) (t : List ℕ) (room : ℕ) (o : Outcome) → b ≡ ltb room (R .size) → (R .size ≤ room → P m t room o)
       → P m t room (cond b (stopped m 7) o)
   by-room true m t room o is h = stops m t room _ (λ z. absurd (omega arith))
   by-room false m t room o is h = h (ltb-false _ _ (sym is))
 
-  by-record : (f : Module → List ℕ → ℕ → Outcome) (m : Module) (t : List ℕ) (room : ℕ) (p : Parsed) → parsedBy takes t ≡ p
-      → ((m′ : Module) (n room′ : ℕ) → 0 < n → P m′ (drop n t) room′ (f m′ (drop n t) room′)) → P m t room (turn f m t room p)
+  by-limit : (b : Bool) (m : Module) (t : List ℕ) (room : ℕ) (e : Event) (o : Outcome) → b ≡ limited m e → (limited m e ≡ false → P m t room o)
+      → P m t room (cond b (stopped m 10) o)
+  by-limit true m t room e o is h = stops m t room _ (λ z. absurd (omega arith))
+  by-limit false m t room e o is h = h (sym is)
+
+  by-record : (f : Module → List ℕ → ℕ → Outcome) (m : Module) (t : List ℕ) (room : ℕ) (p : Parsed) → parsedBy (R .takes) t ≡ p
+      → ((m′ : Module) (n room′ : ℕ) → 0 < n → P m′ (drop n t) room′ (f m′ (drop n t) room′)) → P m t room (turn R f m t room p)
   by-record f m t room (Record e n) is h =
-      let w = record-within t (taken takes t is) in
-      by-room (ltb room answerLength) m t room _ refl (λ fits. goes m t room e n _ is (w .0) (w .1) fits (h (step m e .state) n (room - answerLength) (w .0)))
+      let w = record-within t (taken (R .takes) t is) in
+      by-room (ltb room (R .size)) m t room _ refl (λ fits.
+      by-limit (limited m e) m t room e _ refl (λ free.
+      goes m t room e n _ is (w .0) (w .1) fits free (h (step m e .state) n (room - R .size) (w .0))))
   by-record f m t room Unknown is h = stops m t room _ (λ z. absurd (omega arith))
   by-record f m t room Cut is h = stops m t room _ (λ z. absurd (omega arith))
 
@@ -192,12 +200,12 @@ module _ (takes : ℕ → Bool) (P : Module → List ℕ → ℕ → Outcome →
   by-end true m t room o is h = stops m t room 0 (λ z. eqb-true _ _ (sym is))
   by-end false m t room o is h = h
 
-  by-count : (k : ℕ) (m : Module) (t : List ℕ) (room : ℕ) → length t ≤ k → P m t room (playFor takes k m t room)
+  by-count : (k : ℕ) (m : Module) (t : List ℕ) (room : ℕ) → length t ≤ k → P m t room (playFor R k m t room)
   unfolding playFor
   by-count zero m t room le = stops m t room 0 (λ z. omega arith)
   by-count (suc k) m t room le =
       by-end (eqb (length t) 0) m t room _ refl
-      (by-record (playFor takes k) m t room (parsedBy takes t) refl (λ m′ n room′ pos. by-count k m′ (drop n t) room′ (simp length-drop (omega arith))))
+      (by-record (playFor R k) m t room (parsedBy (R .takes) t) refl (λ m′ n room′ pos. by-count k m′ (drop n t) room′ (simp length-drop (omega arith))))
 
-  pub played : (m : Module) (t : List ℕ) (room : ℕ) → P m t room (playBy takes m t room)
+  pub played : (m : Module) (t : List ℕ) (room : ℕ) → P m t room (playBy R m t room)
   played m t room = by-count (length t) m t room (omega arith)

@@ -35,9 +35,9 @@ KnownAndWhole =
     (m : Module) (t : List ℕ) (room : ℕ) →
     Each (λ r. (unknown r ≡ false) × (length r ≡ recordLength r)) (play m t room .records)
 
--- Ten bytes are written for each record answered, whatever stopped the trace.
-abbrev pub TenBytesEach : Type 0
-TenBytesEach =
+-- So many bytes are written for each record answered, whatever stopped the trace.
+abbrev pub BytesEach : Type 0
+BytesEach =
     (m : Module) (t : List ℕ) (room : ℕ) → length (play m t room .answers) ≡ answerLength * length (play m t room .records)
 
 -- The answers have room.

@@ -1,9 +1,9 @@
 -- All that is shown of playing a trace.
-use Rattle.trace.specs.Laws.{KnownAndWhole, TenBytesEach, AnswersFit, RecordsRead, ReadToTheEnd, EarlierStand, Resumes, InParts, Streams}
+use Rattle.trace.specs.Laws.{KnownAndWhole, BytesEach, AnswersFit, RecordsRead, ReadToTheEnd, EarlierStand, Resumes, InParts, Streams}
 
 pub record Shown : Type 0 where
   pub known-and-whole : KnownAndWhole
-  pub ten-bytes-each : TenBytesEach
+  pub bytes-each : BytesEach
   pub answers-fit : AnswersFit
   pub records-read : RecordsRead
   pub read-to-the-end : ReadToTheEnd

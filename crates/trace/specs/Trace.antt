@@ -1,8 +1,8 @@
--- Document 01, Trace, with kind 05 of document 02, L5: a kind byte, then a body of fixed length; each record gives ten bytes. Fields are
--- big-endian.
+-- Document 01, Trace, with kind 05 (02, L5) and answers of kind 11 (02, L9): a kind byte, then a body of fixed length; each record gives 18
+-- bytes. Fields are big-endian.
 use mathlib.Core.Bool.{Bool, true, not, cond}
-use mathlib.Core.List.{List, [], _∷_}
-use Prim.Native.Nat.{ℕ, _+_, _*_, _/_, _%_}
+use mathlib.Core.List.{List, [], _∷_, _++_}
+use Prim.Native.Nat.{ℕ, _+_, _*_, _/_, _%_, _^_}
 use lib.Dec.{eqb, ltb, leb}
 use lib.ListN.{length, getD}
 use Rattle.steps.specs.Bits.{word}
@@ -97,13 +97,9 @@ parsedBy takes t = cond (eqb (length t) 0) Cut (cond (takes (byteAt t 0)) (byKin
 abbrev pub parsed : List ℕ → Parsed
 parsed t = parsedBy everyKind t
 
-abbrev pub answerLength : ℕ
-answerLength = 10
-
--- An answer: 10, refusal or 0, value (4), driven levels, driven mask, level, vector.
-abbrev pub answerBytes : Answer → List ℕ
-answerBytes a =
-    16 ∷
+-- What stands behind an answer's kind, in documents 01 and 02 alike: refusal or 0, value (4), driven levels, driven mask, level, vector.
+abbrev pub answerBody : Answer → List ℕ
+answerBody a =
     a .refusal ∷
     a .value / 16777216 % 256 ∷
     a .value / 65536 % 256 ∷
@@ -114,3 +110,35 @@ answerBytes a =
     a .level ∷
     a .vector ∷
     []
+
+-- The clocks since reset (8).
+abbrev pub clockBytes : ℕ → List ℕ
+clockBytes n =
+    n / 2 ^ 56 % 256 ∷
+    n / 2 ^ 48 % 256 ∷
+    n / 2 ^ 40 % 256 ∷
+    n / 2 ^ 32 % 256 ∷
+    n / 2 ^ 24 % 256 ∷
+    n / 2 ^ 16 % 256 ∷
+    n / 2 ^ 8 % 256 ∷
+    n % 256 ∷
+    []
+
+abbrev pub answerKind : ℕ
+answerKind = 0x11
+
+abbrev pub answerLength : ℕ
+answerLength = 18
+
+abbrev pub answerBytes : Answer → List ℕ
+answerBytes a = answerKind ∷ (answerBody a ++ clockBytes (a .clock))
+
+-- A reader of traces: the kinds that it takes, and the length and bytes of its answers.
+pub record Reader : Type 0 where
+  pub takes : ℕ → Bool
+  pub size : ℕ
+  pub bytes : Answer → List ℕ
+
+-- That of documents 01 and 02.
+abbrev pub reader : Reader
+reader = record { takes = everyKind; size = answerLength; bytes = answerBytes }

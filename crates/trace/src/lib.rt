@@ -1,4 +1,4 @@
-// The trace: records in, answers out, and refusals 5 to 7.
+// The trace: records in, answers out, and refusals 5 to 7 and 10.
 ghost use mathlib.Core.Path.{_≡_};
 ghost use mathlib.Core.List.{_++_};
 ghost use Prim.Native.Nat.{_≤_};
@@ -26,6 +26,7 @@ pub enum Stop {
     UnknownKind,
     CutRecord,
     NoRoom,
+    ClockLimit,
 }
 
 // The module after a trace, the bytes read and written, and why it stopped.
@@ -48,7 +49,13 @@ const WRITE: u8 = 0x04;
 const LONG_HOLD: u8 = 0x05;
 
 // The bytes of an answer.
-pub const ANSWER_LENGTH: usize = 10;
+pub const ANSWER_LENGTH: usize = 18;
+
+// The kind of an answer.
+const ANSWER: u8 = 0x11;
+
+// The refusal of a hold that would pass 2^64 - 1 clocks.
+const CLOCK_LIMIT: u8 = 10;
 
 fn long(high: u16, low: u16) -> u32
     ensures { λ r. ⌜ r ≡ long high low ⌝ }
@@ -161,6 +168,7 @@ pub fn stop_number(s: Stop) -> u8
         Stop::UnknownKind => 5,
         Stop::CutRecord => 6,
         Stop::NoRoom => 7,
+        Stop::ClockLimit => CLOCK_LIMIT,
     }
 }
 
@@ -169,7 +177,7 @@ fn put_answer(left: &mut [u8], a: Answer)
     requires { ⌜ answerLength ≤ length (now left) ⌝ }
     ensures { λ _. ⌜ now (left .exit) ≡ answerBytes a ++ drop answerLength (now (left .entry)) ⌝ }
 {
-    left[0] = 16;
+    left[0] = ANSWER;
     left[1] = a.refusal;
     left[2] = (a.value / 16777216 % 256) as u8;
     left[3] = (a.value / 65536 % 256) as u8;
@@ -179,10 +187,19 @@ fn put_answer(left: &mut [u8], a: Answer)
     left[7] = a.mask;
     left[8] = a.level;
     left[9] = a.vector;
+    left[10] = (a.clock / 72057594037927936 % 256) as u8;
+    left[11] = (a.clock / 281474976710656 % 256) as u8;
+    left[12] = (a.clock / 1099511627776 % 256) as u8;
+    left[13] = (a.clock / 4294967296 % 256) as u8;
+    left[14] = (a.clock / 16777216 % 256) as u8;
+    left[15] = (a.clock / 65536 % 256) as u8;
+    left[16] = (a.clock / 256 % 256) as u8;
+    left[17] = (a.clock % 256) as u8;
 }
 
 // Plays a trace on a module, with its answers into a lent output.
-// Ruled out: an answer over an earlier one; a byte changed past the answers; a stop after the record that caused it.
+// Ruled out: an answer over an earlier one; a byte changed past the answers; a stop after the record that caused it; a hold past the limit
+// that is answered.
 pub fn play(m: Module, trace: &[u8], out: &mut [u8]) -> Played
     ensures { λ r. ⌜ Plays (play m (now (trace .entry)) (length (now (out .entry)))) (now (out .entry)) r (now (out .exit)) ⌝ }
 {
@@ -210,6 +227,14 @@ pub fn play(m: Module, trace: &[u8], out: &mut [u8]) -> Played
         }
         let s = qsm::event::step(state, e);
         let answer = s.answer;
+        if answer.refusal == CLOCK_LIMIT {
+            return Played {
+                state,
+                read: at,
+                written: put,
+                stop: Stop::ClockLimit,
+            };
+        }
         put_answer(&mut out[put..], answer);
         let next = s.state;
         state = next;

@@ -34,9 +34,36 @@ slice-write-left-9 c = simp length-set (omega (arith, c .before .before .before 
 slice-write-left-10 : tie.Need-slice-write-left-10
 slice-write-left-10 c = simp length-set (omega (arith, c .before .before .before .before .pre))
 
+slice-write-left-11 : tie.Need-slice-write-left-11
+slice-write-left-11 c = simp length-set (omega (arith, c .before .before .before .before .before .pre))
+
+slice-write-left-12 : tie.Need-slice-write-left-12
+slice-write-left-12 c = simp length-set (omega (arith, c .before .before .before .before .before .before .pre))
+
+slice-write-left-13 : tie.Need-slice-write-left-13
+slice-write-left-13 c = simp length-set (omega (arith, c .before .before .before .before .before .before .before .pre))
+
+slice-write-left-14 : tie.Need-slice-write-left-14
+slice-write-left-14 c = simp length-set (omega (arith, c .before .before .before .before .before .before .before .before .pre))
+
+slice-write-left-15 : tie.Need-slice-write-left-15
+slice-write-left-15 c = simp length-set (omega (arith, c .before .before .before .before .before .before .before .before .before .pre))
+
+slice-write-left-16 : tie.Need-slice-write-left-16
+slice-write-left-16 c = simp length-set (omega (arith, c .before .before .before .before .before .before .before .before .before .before .pre))
+
+slice-write-left-17 : tie.Need-slice-write-left-17
+slice-write-left-17 c = simp length-set (omega (arith, c .before .before .before .before .before .before .before .before .before .before .before .pre))
+
+slice-write-left-18 : tie.Need-slice-write-left-18
+slice-write-left-18 c = simp length-set (omega (arith, c .before .before .before .before .before .before .before .before .before .before .before .before .pre))
+
+same-length : tie.Need-same-length
+same-length c = simp length-set
+
 returns : tie.Need-returns
 returns c =
-    let start = c .before .before .before .before in
+    let start = c .before .before .before .before .before .before .before .before .before .before .before .before in
     sets-eq (answerBytes (start .args .a)) (now (start .args .left)) 0 (start .pre)
 
 pub put-answer-spec : {M : Type 1} → statement M
@@ -58,4 +85,20 @@ put-answer-spec =
     slice-write-left-9
     slice-write-left-10
     (λ c. search needs)
+    slice-write-left-11
+    (λ c. search needs)
+    slice-write-left-12
+    (λ c. search needs)
+    slice-write-left-13
+    (λ c. search needs)
+    slice-write-left-14
+    (λ c. search needs)
+    slice-write-left-15
+    (λ c. search needs)
+    slice-write-left-16
+    (λ c. search needs)
+    slice-write-left-17
+    (λ c. search needs)
+    slice-write-left-18
+    same-length
     returns)

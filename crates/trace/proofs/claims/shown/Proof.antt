@@ -1,14 +1,14 @@
 use mathlib.Core.Path.{refl}
 use Rattle.trace.proofs.claims.shown.Statement.{statement}
 use Rattle.trace.proofs.claims.shown.Tie as tie
-use Rattle.trace.proofs.Laws.{known-and-whole, ten-bytes-each, answers-fit, records-read, read-to-the-end, earlier-stand, resumes, in-parts, streams}
+use Rattle.trace.proofs.Laws.{known-and-whole, bytes-each, answers-fit, records-read, read-to-the-end, earlier-stand, resumes, in-parts, streams}
 
 returns : tie.Need-returns
 returns c = (
   refl,
   record {
     known-and-whole = known-and-whole;
-    ten-bytes-each = ten-bytes-each;
+    bytes-each = bytes-each;
     answers-fit = answers-fit;
     records-read = records-read;
     read-to-the-end = read-to-the-end;
