@@ -23,7 +23,7 @@ pub record Accepted (fs a b lent : List ℕ) : Type 0 where
   pub room : 2 * length (others fs a b) ≤ length lent
   pub is : compared fs a b lent ≡ reported fs a b lent (others fs a b)
 
-neither : (p q : Bool) → p || q ≡ false → (p ≡ false) × (q ≡ false)
+pub neither : (p q : Bool) → p || q ≡ false → (p ≡ false) × (q ≡ false)
 neither false q e = (refl, e)
 neither true q e = absurd (let z : _≡_ {A = ℕ} 0 1 = cc in omega arith)
 

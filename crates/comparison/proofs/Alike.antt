@@ -14,7 +14,7 @@ pub same-refl : (x : List ℕ) → same x x ≡ true
 same-refl [] = refl
 same-refl (a ∷ x) = rw (eq-eqb a a refl) (same-refl x)
 
-both : (p q : Bool) → p && q ≡ true → (p ≡ true) × (q ≡ true)
+pub both : (p q : Bool) → p && q ≡ true → (p ≡ true) × (q ≡ true)
 both true q e = (refl, e)
 both false q e = absurd (false≢true e)
 

@@ -17,7 +17,7 @@ by-order : (i n : ℕ) (t : Bool) → ltb i n ≡ t → i < suc n → (i < n) �
 by-order i n true e h = inl (ltb-true i n e)
 by-order i n false e h = inr (omega (arith, ltb-false i n e))
 
-below-or-last : (i n : ℕ) → i < suc n → (i < n) ⊎ (i ≡ n)
+pub below-or-last : (i n : ℕ) → i < suc n → (i < n) ⊎ (i ≡ n)
 below-or-last i n h = by-order i n (ltb i n) refl h
 
 module _ (bytes : ℕ) (a b : List ℕ) where

@@ -3,16 +3,16 @@ use mathlib.Core.Path.{_≡_, refl, ap}
 use mathlib.Core.Bool.{Bool, true, false, _||_}
 use mathlib.Core.List.{List, [], _++_, map, append-nil}
 use Prim.Native.Nat.{ℕ, _+_, _*_, _/_, _%_, _<_, _≤_}
-use native.Mathlib.Nat.{mul-div-cancel, mul-le-mul-right, min-eq-left, min-le-left, div-add-mod', div-mul-le-self, le-div-iff-mul-le}
+use native.Mathlib.Nat.{mul-div-cancel, min-eq-left, div-add-mod', div-mul-le-self, le-div-iff-mul-le}
 use native.Mathlib.Omega.{arith}
 use lib.Dec.{ltb}
 use lib.ListN.{length, getD, length-append, length-map}
 use Rattle.comparison.specs.Answer.{stride}
 use Rattle.comparison.specs.Compare.{common, cut, reported, compared}
-use Rattle.comparison.specs.Pieces.{Joins, InPieces, CutPiece, Longer, MoreOfOne}
+use Rattle.comparison.specs.Pieces.{Joins, Longer}
 use Rattle.comparison.proofs.Accepted.{others, Accepted, accepted, sumsOf, numbers-are, sums-are}
 use Rattle.comparison.proofs.Found.{found}
-use Rattle.comparison.proofs.Ways.{enough}
+use Rattle.comparison.proofs.Ways.{common-within, enough}
 use Rattle.comparison.proofs.Parts.{cut-more, whole-more, answers-more, differing-old, differing-new, common-more, sums-append, sums-old, sums-new, order-more, surplus-more, surplus-grows}
 
 module _ (fs a b c d : List ℕ) (n : ℕ) (pos : 0 < stride fs) (first : length a ≡ n * stride fs) (second : length b ≡ n * stride fs) where
@@ -39,7 +39,7 @@ module _ (fs a b c d : List ℕ) (n : ℕ) (pos : 0 < stride fs) (first : length
   joined l m lent q room =
       let one = whole-more (stride fs) a c n first (q .first) in
       let two = whole-more (stride fs) b d n second (q .second) in
-      let is = enough fs (a ++ c) (b ++ d) lent one two refl refl (omega (arith, count-more)) in
+      let is = enough fs (a ++ c) (b ++ d) lent {bytes = stride fs} refl one two refl refl (omega (arith, count-more)) in
       rw is
       (record {
         refusal = refl;
@@ -50,26 +50,32 @@ module _ (fs a b c d : List ℕ) (n : ℕ) (pos : 0 < stride fs) (first : length
         surplus = surplus-more a b c d (omega arith);
       })
 
-pub in-pieces : InPieces
-in-pieces fs a b c d l m lent n pos first second p q room =
+pub joins-by-fields : (fs a b c d l m lent : List ℕ) (n : ℕ) → 0 < stride fs → length a ≡ n * stride fs → length b ≡ n * stride fs
+    → compared fs a b l .refusal ≡ 0 → compared fs c d m .refusal ≡ 0
+    → 2 * (compared fs a b l .count + compared fs c d m .count) ≤ length lent
+    → Joins n (compared fs a b l) (compared fs c d m) (compared fs (a ++ c) (b ++ d) lent)
+joins-by-fields fs a b c d l m lent n pos first second p q room =
     let x = accepted fs a b l p in
     let y = accepted fs c d m q in
     let r = rw (x .is, y .is) at room in
     rw (x .is, y .is) (joined fs a b c d n pos first second l m lent y r)
 
 module _ (fs c d m : List ℕ) where
-  cut-by : (bad short : Bool) → cut (stride fs) c || cut (stride fs) d ≡ bad → ltb (length m) (2 * length (others fs c d)) ≡ short
+  cut-by-tests : (bad short : Bool) → cut (stride fs) c || cut (stride fs) d ≡ bad → ltb (length m) (2 * length (others fs c d)) ≡ short
       → compared fs c d m .refusal ≡ 6 → cut (stride fs) c || cut (stride fs) d ≡ true
   unfolding compared
-  cut-by true short e f z = e
-  cut-by false true e f z = absurd (let y = rw (e, f) at z in omega arith)
-  cut-by false false e f z = absurd (let y = rw (e, f) at z in omega arith)
+  cut-by-tests true short e f z = e
+  cut-by-tests false true e f z = absurd (let y = rw (e, f) at z in omega arith)
+  cut-by-tests false false e f z = absurd (let y = rw (e, f) at z in omega arith)
 
-pub cut-piece : CutPiece
+  pub cut-tells : compared fs c d m .refusal ≡ 6 → cut (stride fs) c || cut (stride fs) d ≡ true
+  cut-tells z = cut-by-tests (cut (stride fs) c || cut (stride fs) d) (ltb (length m) (2 * length (others fs c d))) refl refl z
+
+pub cut-by-fields : (fs a b c d m lent : List ℕ) (n : ℕ) → length a ≡ n * stride fs → length b ≡ n * stride fs
+    → compared fs c d m .refusal ≡ 6 → compared fs (a ++ c) (b ++ d) lent .refusal ≡ 6
 unfolding compared
-cut-piece fs a b c d m lent n first second z =
-    let bad = cut-by fs c d m (cut (stride fs) c || cut (stride fs) d) (ltb (length m) (2 * length (others fs c d))) refl refl z in
-    rw (cut-more (stride fs) a c n first, cut-more (stride fs) b d n second, bad)
+cut-by-fields fs a b c d m lent n first second z =
+    rw (cut-more (stride fs) a c n first, cut-more (stride fs) b d n second, cut-tells fs c d m z)
 
 -- More of the second log.
 module _ (fs a b c lent : List ℕ) (pos : 0 < stride fs) (shorter : length a ≤ length b) (whole : length c % stride fs ≡ 0) (acc : Accepted fs a b lent) where
@@ -82,9 +88,7 @@ module _ (fs a b c lent : List ℕ) (pos : 0 < stride fs) (shorter : length a �
       rw (answers-more (stride fs) b c (length b / stride fs) long pos) (omega arith)
 
   within : common (stride fs) a b * stride fs ≤ length a
-  within =
-      let h : common (stride fs) a b * stride fs ≤ length a / stride fs * stride fs = mul-le-mul-right (stride fs) (min-le-left _ _) in
-      omega (arith, div-mul-le-self (length a) (stride fs))
+  within = common-within (stride fs) a b .0
 
   same-others : others fs a (b ++ c) ≡ others fs a b
   same-others = rw no-more (rw append-nil at (differing-old (stride fs) a b [] c (common (stride fs) a b) within (omega (arith, within))))
@@ -97,7 +101,7 @@ module _ (fs a b c lent : List ℕ) (pos : 0 < stride fs) (shorter : length a �
   longer : Longer c (reported fs a b lent (others fs a b)) (compared fs a (b ++ c) lent)
   longer =
       let second = whole-more (stride fs) b c (length b / stride fs) long whole in
-      let is = enough fs a (b ++ c) lent (acc .first) second refl refl (omega (arith, acc .room, ap length same-others)) in
+      let is = enough fs a (b ++ c) lent {bytes = stride fs} refl (acc .first) second refl refl (omega (arith, acc .room, ap length same-others)) in
       rw (is, same-others)
       (record {
         refusal = refl;
@@ -107,7 +111,8 @@ module _ (fs a b c lent : List ℕ) (pos : 0 < stride fs) (shorter : length a �
         surplus = surplus-grows a b c shorter;
       })
 
-pub more-of-one : MoreOfOne
-more-of-one fs a b c lent pos shorter whole z =
+pub longer-by-fields : (fs a b c lent : List ℕ) → 0 < stride fs → length a ≤ length b → length c % stride fs ≡ 0
+    → compared fs a b lent .refusal ≡ 0 → Longer c (compared fs a b lent) (compared fs a (b ++ c) lent)
+longer-by-fields fs a b c lent pos shorter whole z =
     let acc = accepted fs a b lent z in
     rw (acc .is) (longer fs a b c lent pos shorter whole acc)

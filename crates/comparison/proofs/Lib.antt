@@ -1,4 +1,5 @@
 pub mod Alike
+pub mod Beginning
 pub mod Summing
 pub mod Differing
 pub mod Listing
@@ -7,7 +8,10 @@ pub mod Found
 pub mod Accepted
 pub mod FieldBits
 pub mod Equal
+pub mod OfKind
 pub mod Told
 pub mod Rest
 pub mod Parts
 pub mod Joining
+pub mod ByKind
+pub mod OwnKind

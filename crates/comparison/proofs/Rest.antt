@@ -10,14 +10,14 @@ use lib.ListN.{length, take, drop, length-append, length-drop}
 use borrow.Author.Tests.{le-ltb, ltb-true, ltb-false}
 use Rattle.comparison.specs.Answer.{stride, weighed}
 use Rattle.comparison.specs.Compare.{answer, differing, listed, common, cut, surplusOf, refused, reported, compared}
-use Rattle.comparison.specs.Laws.{Leaves, LeavesTheRest, Alike, Exchanged}
+use Rattle.comparison.specs.Laws.{Leaves, Alike}
 use Rattle.comparison.proofs.Alike.{same-sym}
 use Rattle.comparison.proofs.Listing.{listed-length}
 use Rattle.comparison.proofs.Accepted.{others, rest-is}
 use Rattle.comparison.proofs.Parts.{surplus-second}
 
 module _ (fs a b lent : List ℕ) where
-  of-refused : (why : ℕ) → Leaves lent (refused a b lent why)
+  pub of-refused : (why : ℕ) → Leaves lent (refused a b lent why)
   of-refused why = record { long = refl; past = refl; refused = λ ne. (refl, refl, refl, refl) }
 
   of-reported : 2 * length (others fs a b) ≤ length lent → Leaves lent (reported fs a b lent (others fs a b))
@@ -34,9 +34,9 @@ module _ (fs a b lent : List ℕ) where
   by-tests false true e = of-refused 7
   by-tests false false e = of-reported (ltb-false _ _ e)
 
-pub leaves-the-rest : LeavesTheRest
+pub leaves-by-fields : (fs a b lent : List ℕ) → Leaves lent (compared fs a b lent)
 unfolding compared
-leaves-the-rest fs a b lent =
+leaves-by-fields fs a b lent =
     by-tests fs a b lent (cut (stride fs) a || cut (stride fs) b) (ltb (length lent) (2 * length (others fs a b))) refl
 
 -- Exchanged, the test, the sum, the numbers and the surplus are the same.
@@ -83,8 +83,8 @@ module _ (fs a b lent : List ℕ) where
         surplus = surplus-sym a b;
       }
 
-pub exchanged : Exchanged
+pub alike-by-fields : (fs a b lent : List ℕ) → Alike (compared fs a b lent) (compared fs b a lent)
 unfolding compared
-exchanged fs a b lent =
+alike-by-fields fs a b lent =
     rw (or-comm (cut (stride fs) b) (cut (stride fs) a), ← others-sym fs a b lent)
     (alike-by fs a b lent (cut (stride fs) a || cut (stride fs) b) (ltb (length lent) (2 * length (others fs a b))))

@@ -12,14 +12,14 @@ use Rattle.comparison.specs.Answer.{fields, stride, same, weighed, sumOf
 
 -- The loop at field f of n: the fields before it are in the sum.
 pub record Summing (n : ℕ) (x y : List ℕ) (sum weight start f : ℕ) : Type 0 where
-  pub few : n ≤ 7
+  pub few : n ≤ 8
   pub inside : f ≤ n
   pub within : start + stride (drop f (take n fields)) ≤ length x
   pub weight-is : weight ≡ 2 ^ f
   pub below : sum < weight
   pub rest : sumOf (take n fields) x y ≡ sum + weighed weight (drop f (take n fields)) (drop start x) (drop start y)
 
-pub summing-starts : (n : ℕ) (x y : List ℕ) → n ≤ 7 → stride (take n fields) ≤ length x → Summing n x y 0 1 0 0
+pub summing-starts : (n : ℕ) (x y : List ℕ) → n ≤ 8 → stride (take n fields) ≤ length x → Summing n x y 0 1 0 0
 summing-starts n x y few long =
     record {
       few = few;
@@ -50,9 +50,9 @@ module _ {n : ℕ} {x y : List ℕ} {sum weight start f : ℕ} (s : Summing n x 
     pub size-within : start + getD fields f 0 + stride (drop (f + 1) (take n fields)) ≤ length x
     size-within = omega (arith, ap stride head, s .within)
 
-    pub weight-small : weight ≤ 64
+    pub weight-small : weight ≤ 128
     weight-small =
-        let h : 2 ^ f ≤ 2 ^ 6 = pow-le-pow-right {n = 2} (omega arith) {i = f} {j = 6} (omega (arith, s .few)) in
+        let h : 2 ^ f ≤ 2 ^ 7 = pow-le-pow-right {n = 2} (omega arith) {i = f} {j = 7} (omega (arith, s .few)) in
         omega (arith, h, s .weight-is)
 
     -- What `same` gave of the parts that were lent, and what that adds.

@@ -8,8 +8,8 @@ use lib.Dec.{ltb}
 use lib.ListN.{length, getD, take, drop, take-append-drop}
 use borrow.Author.Tests.{ltb-true, ltb-false}
 use Rattle.comparison.specs.Answer.{stride, sumOf}
-use Rattle.comparison.specs.Compare.{answer, commonEnd, common, reported}
-use Rattle.comparison.specs.Laws.{Tells, TellsAll}
+use Rattle.comparison.specs.Compare.{answer, commonEnd, common, reported, compared}
+use Rattle.comparison.specs.Laws.{Tells}
 use Rattle.comparison.proofs.Accepted.{others, Accepted, accepted, sumsOf, numbers-are, sums-are}
 use Rattle.comparison.proofs.Found.{found}
 use Rattle.comparison.proofs.FieldBits.{sum-below, bit-tells}
@@ -56,5 +56,5 @@ module _ (fs a b : List ℕ) where
         no-other-bit = λ i h. rw (ss, sum-at ks i h) (sum-below fs (answer (stride fs) a (getD ks i 0)) (answer (stride fs) b (getD ks i 0)));
       }
 
-pub tells-all : TellsAll
-tells-all fs a b lent pos z = let acc = accepted fs a b lent z in rw (acc .is) (told fs a b lent pos acc)
+pub tells-by-fields : (fs a b lent : List ℕ) → 0 < stride fs → compared fs a b lent .refusal ≡ 0 → Tells fs a b (compared fs a b lent)
+tells-by-fields fs a b lent pos z = let acc = accepted fs a b lent z in rw (acc .is) (told fs a b lent pos acc)

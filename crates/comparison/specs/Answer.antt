@@ -1,13 +1,14 @@
--- Document 02, L2: two answers, compared field by field.
+-- Document 02, L2 and L9: two answers, compared field by field.
 use mathlib.Core.Bool.{Bool, true, false, cond, _&&_}
 use mathlib.Core.List.{List, [], _∷_}
 use Prim.Native.Nat.{ℕ, _+_, _*_}
 use lib.Dec.{eqb}
 use lib.ListN.{take, drop}
 
--- Document 01, Trace: the fields of an answer in order, each by its number of bytes: kind, refusal, value, levels, mask, level, vector.
+-- Document 01, Trace, and 02, L9: the fields of an answer in order, each by its number of bytes: kind, refusal, value, levels, mask, level,
+-- vector, clock.
 abbrev pub fields : List ℕ
-fields = 1 ∷ 1 ∷ 4 ∷ 1 ∷ 1 ∷ 1 ∷ 1 ∷ []
+fields = 1 ∷ 1 ∷ 4 ∷ 1 ∷ 1 ∷ 1 ∷ 1 ∷ 8 ∷ []
 
 -- The bytes of an answer of such fields.
 abbrev pub stride : List ℕ → ℕ

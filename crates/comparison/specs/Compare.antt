@@ -1,4 +1,4 @@
--- Document 02, L2: two logs of answers, compared. The answers' fields are a parameter.
+-- Document 02, L2 and L9: two logs of answers, compared. The answers' fields are a parameter, which the logs' kind gives.
 use mathlib.Core.Path.{_≡_}
 use mathlib.Core.Bool.{Bool, false, cond, not, _||_}
 use mathlib.Core.List.{List, [], _∷_, _++_}
@@ -6,6 +6,7 @@ use Prim.Native.Nat.{ℕ, zero, suc, _+_, _*_, _/_, _%_, min}
 use lib.Dec.{eqb, ltb}
 use lib.ListN.{length, take, drop}
 use Rattle.comparison.specs.Answer.{stride, same, sumOf}
+use Rattle.comparison.specs.Kind.{fieldsOf, kindOf, mixed}
 use Rattle.comparison.specs.declared.Compared.{Compared}
 
 -- Answer number k of a log, answers being so many bytes long.
@@ -75,6 +76,15 @@ unfoldable pub compared : List ℕ → List ℕ → List ℕ → List ℕ → Ou
 compared fs a b lent =
     cond (cut (stride fs) a || cut (stride fs) b) (refused a b lent 6)
     (fitted fs a b lent (differing (stride fs) a b (common (stride fs) a b)))
+
+-- 5 before 6: logs whose answers are to be of a kind.
+unfoldable pub comparedAs : ℕ → List ℕ → List ℕ → List ℕ → Outcome
+comparedAs kind a b lent =
+    cond (mixed kind a || mixed kind b) (refused a b lent 5) (compared (fieldsOf kind) a b lent)
+
+-- The kind is the logs' own.
+abbrev pub comparedLogs : List ℕ → List ℕ → List ℕ → Outcome
+comparedLogs a b lent = comparedAs (kindOf a b) a b lent
 
 -- Where the stretch stands, of logs that stand at p and q.
 abbrev pub placed : ℕ × ℕ → ℕ × ℕ → Outcome → ℕ × ℕ

@@ -1,11 +1,13 @@
--- What a comparison tells of two logs, in words of their answers and fields.
+-- What a comparison tells of two logs of a kind, in words of their answers and fields.
 use mathlib.Core.Path.{_≡_}
+use mathlib.Core.Logic.{_⊎_}
 use mathlib.Core.Bool.{false, cond}
 use mathlib.Core.List.{List, [], _∷_, _++_}
 use Prim.Native.Nat.{ℕ, _*_, _/_, _%_, _^_, _<_}
 use lib.ListN.{length, getD, take, drop}
 use Rattle.comparison.specs.Answer.{stride}
-use Rattle.comparison.specs.Compare.{answer, common, Outcome, compared}
+use Rattle.comparison.specs.Kind.{plain, clocked, fieldsOf, strideOf}
+use Rattle.comparison.specs.Compare.{answer, common, Outcome, comparedAs, comparedLogs}
 
 -- The first numbers of the pairs in a list, and the second ones.
 abbrev pub firsts : List ℕ → List ℕ
@@ -55,7 +57,8 @@ pub record Tells (fs a b : List ℕ) (o : Outcome) : Type 0 where
   pub no-other-bit : (i : ℕ) → i < o .count → getD (sums o) i 0 < 2 ^ length fs
 
 abbrev pub TellsAll : Type 0
-TellsAll = (fs a b lent : List ℕ) → 0 < stride fs → compared fs a b lent .refusal ≡ 0 → Tells fs a b (compared fs a b lent)
+TellsAll =
+    (kind : ℕ) (a b lent : List ℕ) → comparedAs kind a b lent .refusal ≡ 0 → Tells (fieldsOf kind) a b (comparedAs kind a b lent)
 
 -- The list past the count is as it was; on a refusal all of it, the count is 0, and the stretch an empty one of the first log.
 pub record Leaves (lent : List ℕ) (o : Outcome) : Type 0 where
@@ -64,7 +67,7 @@ pub record Leaves (lent : List ℕ) (o : Outcome) : Type 0 where
   pub refused : (o .refusal ≡ 0 → ⊥) → (o .list ≡ lent) × (o .count ≡ 0) × (o .surplus ≡ []) × (o .second ≡ false)
 
 abbrev pub LeavesTheRest : Type 0
-LeavesTheRest = (fs a b lent : List ℕ) → Leaves lent (compared fs a b lent)
+LeavesTheRest = (kind : ℕ) (a b lent : List ℕ) → Leaves lent (comparedAs kind a b lent)
 
 -- With the logs exchanged: the same refusal, the same list and the same surplus bytes.
 pub record Alike (o p : Outcome) : Type 0 where
@@ -74,4 +77,19 @@ pub record Alike (o p : Outcome) : Type 0 where
   pub surplus : o .surplus ≡ p .surplus
 
 abbrev pub Exchanged : Type 0
-Exchanged = (fs a b lent : List ℕ) → Alike (compared fs a b lent) (compared fs b a lent)
+Exchanged = (a b lent : List ℕ) → Alike (comparedLogs a b lent) (comparedLogs b a lent)
+
+-- Every answer in both logs, a cut last one too, begins with the same one of 10 and 11.
+pub record OneKind (a b : List ℕ) : Type 0 where
+  pub kind : ℕ
+  pub known : (kind ≡ plain) ⊎ (kind ≡ clocked)
+  pub first : (i : ℕ) → i * strideOf kind < length a → getD a (i * strideOf kind) 0 ≡ kind
+  pub second : (i : ℕ) → i * strideOf kind < length b → getD b (i * strideOf kind) 0 ≡ kind
+
+-- Refusal 5 exactly unless they do.
+pub record FiveUnless (a b : List ℕ) (o : Outcome) : Type 0 where
+  pub never : OneKind a b → o .refusal ≡ 5 → ⊥
+  pub else : (o .refusal ≡ 5 → ⊥) → OneKind a b
+
+abbrev pub FiveExactly : Type 0
+FiveExactly = (a b lent : List ℕ) → FiveUnless a b (comparedLogs a b lent)

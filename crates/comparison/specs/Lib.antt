@@ -1,4 +1,5 @@
 pub mod Answer
+pub mod Kind
 pub mod Compare
 pub mod Laws
 pub mod Pieces

@@ -6,8 +6,7 @@ ghost use Rattle.qsm.specs.State.{resetModule};
 ghost use Rattle.qsm.specs.declared.event.Event.the-variants.{Reset, Hold};
 ghost use Rattle.host.specs.Host.{Applied, readEvent, writeEvent};
 ghost use Rattle.trace.specs.Play.{play};
-ghost use Rattle.comparison.specs.Answer.{fields};
-ghost use Rattle.comparison.specs.Compare.{compared, inNumbers};
+ghost use Rattle.comparison.specs.Compare.{comparedLogs, inNumbers};
 ghost use Rattle.planner.specs.Check.{accepts};
 ghost use Rattle.planner.specs.Quickest.{planned};
 ghost use Rattle.planner.specs.Writes.{writeNo, writesOf};
@@ -119,11 +118,11 @@ pub extern "C" fn qsm_play(m: Module, trace: &[u8], log: &mut [u8]) -> Played
     }
 }
 
-// Two logs, compared into a list.
+// Two logs of either kind, compared into a list.
 // Ruled out: a list changed by a refusal; the logs exchanged, which would name the wrong one.
 #[no_mangle]
 pub extern "C" fn qsm_compare<'a>(a: &'a [u8], b: &'a [u8], list: &mut [u64]) -> Compared
-    ensures { λ r. ⌜ (now (list .exit) ≡ compared fields (now (a .entry)) (now (b .entry)) (now (list .entry)) .list) × (r ≡ inNumbers (compared fields (now (a .entry)) (now (b .entry)) (now (list .entry)))) ⌝ }
+    ensures { λ r. ⌜ (now (list .exit) ≡ comparedLogs (now (a .entry)) (now (b .entry)) (now (list .entry)) .list) × (r ≡ inNumbers (comparedLogs (now (a .entry)) (now (b .entry)) (now (list .entry)))) ⌝ }
 {
     comparison::compare_numbers(a, b, list)
 }

@@ -1,27 +1,42 @@
 use mathlib.Core.Path.{refl}
 use Rattle.comparison.specs.Answer.{weighed}
-use Rattle.comparison.specs.Compare.{differing, compared}
+use Rattle.comparison.specs.Kind.{firstOther}
+use Rattle.comparison.specs.Compare.{differing, compared, comparedAs}
 use Rattle.comparison.specs.Shown.{Example}
-use Rattle.comparison.proofs.Told.{tells-all}
-use Rattle.comparison.proofs.Rest.{leaves-the-rest, exchanged}
-use Rattle.comparison.proofs.Joining.{in-pieces, cut-piece, more-of-one}
+use Rattle.comparison.proofs.OwnKind.{five-exactly, exchanged}
+use Rattle.comparison.proofs.ByKind.{tells-all, leaves-the-rest, in-pieces, other-piece, cut-piece, more-of-one, more-of-cut}
 use Rattle.comparison.proofs.claims.shown.Statement.{statement}
 use Rattle.comparison.proofs.claims.shown.Tie as tie
 
 example : Example
-unfolding weighed differing compared
-example = record { whole = refl; beginning = refl; rest = refl; cut = refl; short = refl }
+unfolding weighed firstOther differing compared comparedAs
+example =
+    record {
+      whole = refl;
+      clock = refl;
+      beginning = refl;
+      rest = refl;
+      more = refl;
+      two-kinds = refl;
+      no-kind = refl;
+      other-in-cut = refl;
+      cut = refl;
+      short = refl;
+    }
 
 returns : tie.Need-returns
 returns c = (
   refl,
   record {
+    five = five-exactly;
     tells = tells-all;
     leaves = leaves-the-rest;
     exchanged = exchanged;
     in-pieces = in-pieces;
+    other-piece = other-piece;
     cut-piece = cut-piece;
     more-of-one = more-of-one;
+    more-of-cut = more-of-cut;
     example = example;
   },
 )
