@@ -7,11 +7,12 @@ use lib.Bits.{bitAnd}
 use lib.ListN.{length, length-append}
 use Rattle.qsm.specs.declared.event.Answer.{Answer}
 use Rattle.text.specs.Line.{room}
+use Rattle.text.specs.Log.{foreignKind}
 use Rattle.text.specs.Difference.{fieldName, kindText, refusalText, pinsText, levelText, fieldText, differenceLine}
-use Rattle.text.specs.Verdict.{equalLine, more, differLine, why, refusedLine}
+use Rattle.text.specs.Verdict.{equalLine, more, differLine, why, refusedLine, expected, otherLine}
 use Rattle.text.specs.Noise.{noiseLine, tallyLine}
 use Rattle.text.specs.declared.difference.Field.{Field}
-use Rattle.text.specs.declared.difference.Field.the-variants.{Kind, Refusal, Value, Levels, Mask, Level, Vector}
+use Rattle.text.specs.declared.difference.Field.the-variants.{Kind, Refusal, Value, Levels, Mask, Level, Vector, Clock}
 use Rattle.text.specs.declared.log.Logged.{Logged}
 use Rattle.text.proofs.Lengths.{either, decimal-length, refusal-length, pins-length}
 
@@ -23,9 +24,10 @@ name-length Levels = omega arith
 name-length Mask = omega arith
 name-length Level = omega arith
 name-length Vector = omega arith
+name-length Clock = omega arith
 
 kind-length : (k : ℕ) → length (kindText k) ≤ 58
-kind-length k = either (eqb k 16) _ _ 58 (omega arith) (omega arith)
+kind-length k = either (foreignKind k) _ _ 58 (omega arith) (omega arith)
 
 refusal-text-length : (n : ℕ) → length (refusalText n) ≤ 58
 refusal-text-length n = either (ltb 4 n) _ _ 58 (omega arith) (omega (arith, refusal-length n))
@@ -46,6 +48,7 @@ text-length Levels l = pins-text-length (l .answer .levels) (l .answer)
 text-length Mask l = pins-text-length (l .answer .mask) (l .answer)
 text-length Level l = level-length (l .answer .level)
 text-length Vector l = omega arith
+text-length Clock l = omega (arith, decimal-length 20 (l .answer .clock))
 
 pub difference-fits : (n : ℕ) (f : Field) (x y : Logged) → length (differenceLine n f x y) ≤ room
 difference-fits n f x y =
@@ -71,6 +74,14 @@ differ-fits differing answers first second =
 
 pub refused-fits : (refusal : ℕ) → length (refusedLine refusal) ≤ room
 refused-fits refusal = simp length-append (omega (arith, decimal-length 3 refusal, why-length refusal))
+
+expected-length : (kind : ℕ) → length (expected kind) ≤ 8
+unfolding expected
+expected-length kind = either (foreignKind kind) _ _ 8 (omega arith) (omega arith)
+
+pub other-fits : (letter answer place byte kind : ℕ) → length (otherLine letter answer place byte kind) ≤ room
+other-fits letter answer place byte kind =
+    simp length-append (omega (arith, decimal-length 20 answer, decimal-length 20 place, expected-length kind))
 
 -- ---- the noise figures
 

@@ -1,7 +1,6 @@
 -- How long the texts can be: no line of an answer or of a record is longer than a line has room for. Assumes nothing.
-use mathlib.Core.Path.{_≡_}
 use mathlib.Core.Bool.{Bool, true, false, cond}
-use mathlib.Core.List.{List, [], _∷_, _++_}
+use mathlib.Core.List.{List, [], _++_}
 use Prim.Native.Nat.{ℕ, zero, suc, _+_, _*_, _/_, _≤_}
 use native.Mathlib.Omega.{arith}
 use lib.Dec.{eqb, ltb}
@@ -24,10 +23,11 @@ use Rattle.qsm.specs.declared.map.Place.{Place}
 use Rattle.qsm.specs.declared.map.Place.the-variants.{Own, Serial, Queue, Hole}
 use Rattle.text.specs.Digits.{ascii, decimal}
 use Rattle.text.specs.Line.{room}
-use Rattle.text.specs.Answer.{refusal, pin, eachPin, pins, request, fields, answerLine}
+use Rattle.text.specs.Answer.{refusal, pin, eachPin, pins, request, fields, clock, answerLine}
 use Rattle.text.specs.Register.{partOf, pair, own, serial, command, queue, register, registers}
-use Rattle.trace.specs.Trace.{longHoldKind}
-use Rattle.text.specs.Record.{privilege, place, hold, access, event, recordLine}
+use Rattle.trace.specs.Trace.{answerKind, longHoldKind}
+use Rattle.text.specs.Record.{place, hold, access, event, recordLine}
+use Rattle.text.specs.declared.log.Logged.{Logged}
 use Rattle.text.specs.declared.register.Part.{Part}
 use Rattle.text.specs.declared.register.Part.the-variants.{Upper, Lower, Whole}
 
@@ -89,8 +89,14 @@ fields-length a =
     simp length-append
     (omega (arith, refusal-length (a .refusal), pins-length (a .mask) (a .levels), request-length (a .level) (a .vector)))
 
-pub answer-fits : (n : ℕ) (a : Answer) → length (answerLine n a) ≤ room
-answer-fits n a = simp length-append (omega (arith, decimal-length 20 n, fields-length a))
+clock-length : (kind clocks : ℕ) → length (clock kind clocks) ≤ 28
+unfolding clock
+clock-length kind clocks = either (eqb kind answerKind) _ _ 28 (simp length-append (omega (arith, decimal-length 20 clocks))) (omega arith)
+
+pub answer-fits : (n : ℕ) (l : Logged) → length (answerLine n l) ≤ room
+answer-fits n l =
+    simp length-append
+    (omega (arith, decimal-length 20 n, fields-length (l .answer), clock-length (l .kind) (l .answer .clock)))
 
 -- ---- a record
 

@@ -1,11 +1,13 @@
--- The line of an answer: `8: refusal 2 (unmapped), value 00000000, pins TXD=0, no request`.
+-- The line of an answer: `8: refusal 2 (unmapped), value 00000000, pins TXD=0, no request, clock 1024`; one of kind 10 has no clock.
 use mathlib.Core.Bool.{Bool, cond}
 use mathlib.Core.List.{List, [], _∷_, _++_}
 use Prim.Native.Nat.{ℕ}
 use lib.Dec.{eqb}
 use Rattle.steps.specs.Bits.{bit}
 use Rattle.qsm.specs.declared.event.Answer.{Answer}
+use Rattle.trace.specs.Trace.{answerKind}
 use Rattle.text.specs.Digits.{ascii, decimal, hexByte, hexLong, number}
+use Rattle.text.specs.declared.log.Logged.{Logged}
 
 -- Document 01, Seven refusals: those that an access is answered with.
 unfoldable pub refusal : ℕ → List ℕ
@@ -52,6 +54,9 @@ fields a =
     ++ ascii ", "
     ++ request (a .level) (a .vector)
 
+unfoldable pub clock : ℕ → ℕ → List ℕ
+clock kind clocks = cond (eqb kind answerKind) (ascii ", clock " ++ decimal 20 clocks) []
+
 -- The line of answer n, with the byte that ends a line.
-abbrev pub answerLine : ℕ → Answer → List ℕ
-answerLine n a = number n ++ fields a ++ (10 ∷ [])
+abbrev pub answerLine : ℕ → Logged → List ℕ
+answerLine n l = number n ++ fields (l .answer) ++ clock (l .kind) (l .answer .clock) ++ (10 ∷ [])

@@ -7,8 +7,9 @@ use lib.Bits.{bitAnd}
 use Rattle.qsm.specs.declared.event.Answer.{Answer}
 use Rattle.text.specs.Digits.{ascii, decimal, hexByte, hexLong, number}
 use Rattle.text.specs.Answer.{refusal, pins}
+use Rattle.text.specs.Log.{foreignKind}
 use Rattle.text.specs.declared.difference.Field.{Field}
-use Rattle.text.specs.declared.difference.Field.the-variants.{Kind, Refusal, Value, Levels, Mask, Level, Vector}
+use Rattle.text.specs.declared.difference.Field.the-variants.{Kind, Refusal, Value, Levels, Mask, Level, Vector, Clock}
 use Rattle.text.specs.declared.log.Logged.{Logged}
 
 abbrev pub fieldName : Field → List ℕ
@@ -19,15 +20,16 @@ fieldName Levels = ascii "levels"
 fieldName Mask = ascii "mask"
 fieldName Level = ascii "level"
 fieldName Vector = ascii "vector"
+fieldName Clock = ascii "clock"
 
 -- A byte that no answer of the model has there.
 abbrev pub foreign : ℕ → List ℕ
 foreign b = ascii "hex " ++ hexByte b
 
 abbrev pub kindText : ℕ → List ℕ
-kindText k = cond (eqb k 16) (hexByte k) (foreign k)
+kindText k = cond (foreignKind k) (foreign k) (hexByte k)
 
--- 5 to 7 stop a trace and have no answer.
+-- 5 to 7 and 10 stop a trace and have no answer in a log.
 abbrev pub refusalText : ℕ → List ℕ
 refusalText n = cond (ltb 4 n) (foreign n) (refusal n)
 
@@ -47,6 +49,7 @@ fieldText Levels l = pinsText (l .answer .levels) (l .answer)
 fieldText Mask l = pinsText (l .answer .mask) (l .answer)
 fieldText Level l = levelText (l .answer .level)
 fieldText Vector l = hexByte (l .answer .vector)
+fieldText Clock l = decimal 20 (l .answer .clock)
 
 -- The line of a field of answer n, with the byte that ends a line.
 abbrev pub differenceLine : ℕ → Field → Logged → Logged → List ℕ

@@ -9,7 +9,7 @@ use Rattle.text.specs.declared.line.Line.{Line}
 
 -- The bytes that a line has room for.
 abbrev pub room : ℕ
-room = 160
+room = 184
 
 -- The line whose text is t: its bytes, and zeros in the rest of the room.
 abbrev pub lineOf : List ℕ → Line

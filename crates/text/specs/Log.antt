@@ -1,19 +1,35 @@
--- Document 01, Trace: a log is a row of answers of ten bytes; what stands at the start of a rest of one.
-use mathlib.Core.Bool.{cond, not}
+-- Document 01, Trace, and 02, L9: a log is a row of answers of one kind, ten bytes of kind 10 or 18 of kind 11; what stands at the start of
+-- a rest of one.
+use mathlib.Core.Bool.{Bool, cond, not, _&&_, _||_}
 use mathlib.Core.List.{List}
-use Prim.Native.Nat.{ℕ}
+use Prim.Native.Nat.{ℕ, _+_, _*_, _^_}
 use lib.Dec.{eqb, ltb}
 use lib.Bits.{bitAnd}
 use lib.ListN.{length}
-use Rattle.trace.specs.Trace.{byteAt, longAt, answerLength}
+use Rattle.trace.specs.Trace.{byteAt, longAt, answerKind, answerLength}
 use Rattle.qsm.specs.declared.event.Answer.{Answer}
 use Rattle.text.specs.declared.log.Entry.{Entry}
 use Rattle.text.specs.declared.log.Logged.{Logged}
-use Rattle.text.specs.declared.log.Entry.the-variants.{Whole, NoAnswer, NoRefusal, NotDriven, Cut}
+use Rattle.text.specs.declared.log.Entry.the-variants.{Whole, NoAnswer, OtherKind, NoRefusal, NotDriven, Cut}
 
--- Ten bytes as an answer.
-abbrev pub answerAt : List ℕ → Answer
-answerAt t =
+-- The kind of answers without the clock.
+abbrev pub plainKind : ℕ
+plainKind = 0x10
+
+abbrev pub sizeOf : ℕ → ℕ
+sizeOf kind = cond (eqb kind answerKind) answerLength 10
+
+-- A number of eight bytes, by its upper and its lower four.
+abbrev pub wide : ℕ → ℕ → ℕ
+wide h l = h * 2 ^ 32 + l
+
+-- The clock, the last eight bytes of kind 11; 0 where there is none.
+abbrev pub clockAt : ℕ → List ℕ → ℕ
+clockAt kind t = cond (eqb kind answerKind) (wide (longAt t 10) (longAt t 14)) 0
+
+-- The bytes of an answer of a kind.
+abbrev pub answerAt : ℕ → List ℕ → Answer
+answerAt kind t =
     record {
       refusal = byteAt t 1;
       value = longAt t 2;
@@ -21,21 +37,34 @@ answerAt t =
       mask = byteAt t 7;
       level = byteAt t 8;
       vector = byteAt t 9;
+      clock = clockAt kind t;
     }
 
--- What stands there, whether it is an answer of the model or not; zeros where there are fewer than ten bytes.
+abbrev pub nothing : Logged
+nothing =
+    record { kind = 0; answer = record { refusal = 0; value = 0; levels = 0; mask = 0; level = 0; vector = 0; clock = 0 } }
+
+-- What stands there, whether it is an answer of the model or not; zeros where there are fewer bytes than an answer's.
 abbrev pub loggedAt : List ℕ → Logged
 loggedAt t =
-    cond (ltb (length t) answerLength)
-    (record { kind = 0; answer = record { refusal = 0; value = 0; levels = 0; mask = 0; level = 0; vector = 0 } })
-    (record { kind = byteAt t 0; answer = answerAt t })
+    cond (ltb (length t) (sizeOf (byteAt t 0))) nothing (record { kind = byteAt t 0; answer = answerAt (byteAt t 0) t })
 
--- What is wrong first: no 10 at the start, a refusal above 4, a level of a pin that is not driven; else the answer.
-abbrev pub tested : ℕ → Answer → Entry
-tested first a =
-    cond (not (eqb first 16)) NoAnswer
-    (cond (ltb 4 (a .refusal)) NoRefusal
-    (cond (not (eqb (bitAnd (a .levels) (a .mask)) (a .levels))) NotDriven (Whole a)))
+-- What is wrong first: a refusal above 4, a level of a pin that is not driven; else the answer.
+abbrev pub tested : Logged → Entry
+tested l =
+    cond (ltb 4 (l .answer .refusal)) NoRefusal
+    (cond (not (eqb (bitAnd (l .answer .levels) (l .answer .mask)) (l .answer .levels))) NotDriven (Whole l))
 
-abbrev pub entry : List ℕ → Entry
-entry t = cond (ltb (length t) answerLength) Cut (tested (byteAt t 0) (answerAt t))
+-- The first byte of an answer: of no kind, or of another than the answers before it, whose kind is given, or 0 if there are none.
+abbrev pub foreignKind : ℕ → Bool
+foreignKind first = not (eqb first plainKind || eqb first answerKind)
+
+abbrev pub otherKind : ℕ → ℕ → Bool
+otherKind kind first = not (eqb kind 0) && not (eqb kind first)
+
+abbrev pub entry : ℕ → List ℕ → Entry
+entry kind t =
+    cond (eqb (length t) 0) Cut
+    (cond (foreignKind (byteAt t 0)) NoAnswer
+    (cond (otherKind kind (byteAt t 0)) OtherKind
+    (cond (ltb (length t) (sizeOf (byteAt t 0))) Cut (tested (loggedAt t)))))

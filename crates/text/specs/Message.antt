@@ -4,20 +4,22 @@ use mathlib.Core.List.{List, [], _∷_, _++_}
 use Prim.Native.Nat.{ℕ}
 use Rattle.trace.specs.Play.{stopNumber}
 use Rattle.trace.specs.declared.Stop.{Stop}
-use Rattle.trace.specs.declared.Stop.the-variants.{End, UnknownKind, CutRecord, NoRoom}
+use Rattle.trace.specs.declared.Stop.the-variants.{End, UnknownKind, CutRecord, NoRoom, ClockLimit}
 use Rattle.text.specs.Digits.{ascii, decimal}
 use Rattle.text.specs.declared.message.Fault.{Fault}
-use Rattle.text.specs.declared.message.Fault.the-variants.{NoAnswer, NoRefusal, NotDriven, NoRecord, Cut}
+use Rattle.text.specs.declared.message.Fault.the-variants.{NoAnswer, OtherKind, NoRefusal, NotDriven, NoRecord, Cut}
 
--- Document 01, Seven refusals: those that stop a trace.
+-- Document 01, Seven refusals, and 02, L9: those that stop a trace.
 abbrev pub stopWords : Stop → List ℕ
 stopWords End = ascii "end of the trace"
 stopWords UnknownKind = ascii "unknown record kind"
 stopWords CutRecord = ascii "record cut by the end of the trace"
 stopWords NoRoom = ascii "no room left for an answer"
+stopWords ClockLimit = ascii "hold past the clock's limit"
 
 abbrev pub faultWords : Fault → List ℕ
-faultWords NoAnswer = ascii "its first byte is not hex 10"
+faultWords NoAnswer = ascii "its first byte is neither hex 10 nor hex 11"
+faultWords OtherKind = ascii "it is of another kind than those before it"
 faultWords NoRefusal = ascii "its refusal is above 4"
 faultWords NotDriven = ascii "it gives the level of a pin that is not driven"
 faultWords NoRecord = ascii "unknown record kind"

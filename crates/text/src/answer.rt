@@ -1,9 +1,11 @@
-// The line of an answer: its number, its refusal by name, its value, the driven pins with their levels, and the request.
+// The line of an answer: its number, its refusal by name, its value, the driven pins with their levels, the request, and the clock if it has
+// one.
 ghost use mathlib.Core.Path.{_≡_};
 ghost use Rattle.steps.specs.Bits.{bit};
 ghost use Rattle.text.specs.Line.{puts, Shows};
-ghost use Rattle.text.specs.Answer.{refusal, pin, eachPin, pins, request, fields, answerLine};
+ghost use Rattle.text.specs.Answer.{refusal, pin, eachPin, pins, request, fields, clock, answerLine};
 use crate::line::Line;
+use crate::log::Logged;
 use qsm::event::Answer;
 
 impl Line {
@@ -83,12 +85,27 @@ impl Line {
             .write(b", ")
             .request(a.level, a.vector)
     }
+
+    fn clock(self, kind: u8, clocks: u64) -> Line
+        ensures { λ r. ⌜ r ≡ puts self (clock kind clocks) ⌝ }
+    {
+        if kind == 17 {
+            self.write(b", clock ").decimal(20, clocks)
+        } else {
+            self
+        }
+    }
 }
 
 // The line of answer n.
-// Ruled out: a line cut short; the value or a pin of another answer; a number other than n.
-pub fn answer_line(n: u64, a: Answer) -> Line
-    ensures { λ r. ⌜ Shows r (answerLine n a) ⌝ }
+// Ruled out: a line cut short; the value or a pin of another answer; a number other than n; a clock for kind 10.
+pub fn answer_line(n: u64, l: Logged) -> Line
+    ensures { λ r. ⌜ Shows r (answerLine n l) ⌝ }
 {
-    Line::empty().number(n).fields(a).put(10)
+    let a = l.answer;
+    Line::empty()
+        .number(n)
+        .fields(a)
+        .clock(l.kind, a.clock)
+        .put(10)
 }

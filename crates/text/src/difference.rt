@@ -4,6 +4,7 @@ ghost use Rattle.text.specs.Line.{puts, Shows};
 ghost use Rattle.text.specs.Difference.{fieldName, foreign, kindText, refusalText, pinsText, levelText, fieldText, differenceLine};
 use crate::line::Line;
 use crate::log::Logged;
+use crate::log::foreign_kind;
 use qsm::event::Answer;
 
 // The fields of an answer, in order.
@@ -15,6 +16,7 @@ pub enum Field {
     Mask,
     Level,
     Vector,
+    Clock,
 }
 
 impl Line {
@@ -29,6 +31,7 @@ impl Line {
             Field::Mask => self.write(b"mask"),
             Field::Level => self.write(b"level"),
             Field::Vector => self.write(b"vector"),
+            Field::Clock => self.write(b"clock"),
         }
     }
 
@@ -42,10 +45,10 @@ impl Line {
     fn kind_text(self, k: u8) -> Line
         ensures { λ r. ⌜ r ≡ puts self (kindText k) ⌝ }
     {
-        if k == 16 {
-            self.hex_byte(k)
-        } else {
+        if foreign_kind(k) {
             self.foreign(k)
+        } else {
+            self.hex_byte(k)
         }
     }
 
@@ -93,6 +96,7 @@ impl Line {
             Field::Mask => self.pins_text(a.mask, a),
             Field::Level => self.level_text(a.level),
             Field::Vector => self.hex_byte(a.vector),
+            Field::Clock => self.decimal(20, a.clock),
         }
     }
 }

@@ -5,7 +5,7 @@ ghost use Rattle.text.specs.Line.{empty, put, puts};
 
 // The bytes of a line, and how many of them it has.
 pub struct Line {
-    pub bytes: [u8; 160],
+    pub bytes: [u8; 184],
     pub length: usize,
 }
 
@@ -30,7 +30,7 @@ impl Line {
         ensures { λ r. ⌜ r ≡ empty ⌝ }
     {
         Line {
-            bytes: [0u8; 160],
+            bytes: [0u8; 184],
             length: 0,
         }
     }
@@ -40,7 +40,7 @@ impl Line {
         ensures { λ r. ⌜ r ≡ put self b ⌝ }
     {
         let at = self.length;
-        if at < 160 {
+        if at < 184 {
             self.bytes[at] = b;
             self.length = at + 1;
         }

@@ -1,14 +1,17 @@
-// The answer at the start of a rest of a log.
+// The answer at the start of a rest of a log of either kind.
 ghost use mathlib.Core.Path.{_≡_};
-ghost use Rattle.trace.specs.Trace.{long};
-ghost use Rattle.text.specs.Log.{loggedAt, tested, entry};
+ghost use Prim.Native.Nat.{_≤_, _+_};
+ghost use lib.ListN.{length};
+ghost use Rattle.trace.specs.Trace.{wordAt, long, longAt};
+ghost use Rattle.text.specs.Log.{sizeOf, wide, clockAt, nothing, loggedAt, tested, foreignKind, otherKind, entry};
 use qsm::event::Answer;
 
-// An answer, or what is wrong: its first byte is not 10, its refusal is above 4, a pin that is not driven has a level, or the end of the
-// log cuts it.
+// An answer, or what is wrong: its first byte is neither 10 nor 11, or not that of the answers before it, its refusal is above 4, a pin that
+// is not driven has a level, or the end of the log cuts it.
 pub enum Entry {
-    Whole(Answer),
+    Whole(Logged),
     NoAnswer,
+    OtherKind,
     NoRefusal,
     NotDriven,
     Cut,
@@ -20,69 +23,135 @@ pub struct Logged {
     pub answer: Answer,
 }
 
+// The bytes of an answer of a kind.
+// Ruled out: ten for both; eighteen for both.
+pub fn size_of(kind: u8) -> usize
+    ensures { λ r. ⌜ r ≡ sizeOf kind ⌝ }
+{
+    if kind == 17 { 18 } else { 10 }
+}
+
+fn word_at(rest: &[u8], at: usize) -> u16
+    requires { ⌜ at + 2 ≤ length (now rest) ⌝ }
+    ensures { λ r. ⌜ r ≡ wordAt (now (rest .entry)) at ⌝ }
+{
+    steps::word(rest[at], rest[at + 1])
+}
+
 fn long(high: u16, low: u16) -> u32
     ensures { λ r. ⌜ r ≡ long high low ⌝ }
 {
     (high as u32) * 65536 + (low as u32)
 }
 
-// An answer behind its first byte, unless something is wrong.
-fn tested(first: u8, a: Answer) -> Entry
-    ensures { λ r. ⌜ r ≡ tested first a ⌝ }
+fn long_at(rest: &[u8], at: usize) -> u32
+    requires { ⌜ at + 4 ≤ length (now rest) ⌝ }
+    ensures { λ r. ⌜ r ≡ longAt (now (rest .entry)) at ⌝ }
 {
-    if first != 16 {
-        return Entry::NoAnswer;
+    long(word_at(rest, at), word_at(rest, at + 2))
+}
+
+fn wide(high: u32, low: u32) -> u64
+    ensures { λ r. ⌜ r ≡ wide high low ⌝ }
+{
+    (high as u64) * 4294967296 + (low as u64)
+}
+
+fn clock_at(kind: u8, rest: &[u8]) -> u64
+    requires { ⌜ sizeOf kind ≤ length (now rest) ⌝ }
+    ensures { λ r. ⌜ r ≡ clockAt kind (now (rest .entry)) ⌝ }
+{
+    if kind == 17 {
+        return wide(long_at(rest, 10), long_at(rest, 14));
     }
+    0
+}
+
+fn nothing() -> Logged
+    ensures { λ r. ⌜ r ≡ nothing ⌝ }
+{
+    Logged {
+        kind: 0,
+        answer: Answer {
+            refusal: 0,
+            value: 0,
+            levels: 0,
+            mask: 0,
+            level: 0,
+            vector: 0,
+            clock: 0,
+        },
+    }
+}
+
+// The bytes at the start of a rest of a log; zeros where there are fewer than an answer's.
+// Ruled out: a little-endian value or clock; levels and mask exchanged; a clock in kind 10.
+pub fn logged_at(rest: &[u8]) -> Logged
+    ensures { λ r. ⌜ r ≡ loggedAt (now (rest .entry)) ⌝ }
+{
+    if rest.len() < 10 {
+        return nothing();
+    }
+    let kind = rest[0];
+    if rest.len() < size_of(kind) {
+        return nothing();
+    }
+    let answer = Answer {
+        refusal: rest[1],
+        value: long_at(rest, 2),
+        levels: rest[6],
+        mask: rest[7],
+        level: rest[8],
+        vector: rest[9],
+        clock: clock_at(kind, rest),
+    };
+    Logged { kind, answer }
+}
+
+// The answer, unless something is wrong with it.
+fn tested(l: Logged) -> Entry
+    ensures { λ r. ⌜ r ≡ tested l ⌝ }
+{
+    let a = l.answer;
     if a.refusal > 4 {
         return Entry::NoRefusal;
     }
     if (a.levels & a.mask) != a.levels {
         return Entry::NotDriven;
     }
-    Entry::Whole(a)
+    Entry::Whole(l)
 }
 
-// The bytes at the start of a rest of a log; zeros where there are fewer than an answer's.
-// Ruled out: a little-endian value; levels and mask exchanged.
-pub fn logged_at(rest: &[u8]) -> Logged
-    ensures { λ r. ⌜ r ≡ loggedAt (now (rest .entry)) ⌝ }
+// Ruled out: 10 alone; 11 alone.
+pub fn foreign_kind(first: u8) -> bool
+    ensures { λ r. ⌜ r ≡ foreignKind first ⌝ }
 {
-    if rest.len() < 10 {
-        return Logged {
-            kind: 0,
-            answer: Answer {
-                refusal: 0,
-                value: 0,
-                levels: 0,
-                mask: 0,
-                level: 0,
-                vector: 0,
-            },
-        };
-    }
-    let value = long(steps::word(rest[2], rest[3]), steps::word(rest[4], rest[5]));
-    let answer = Answer {
-        refusal: rest[1],
-        value,
-        levels: rest[6],
-        mask: rest[7],
-        level: rest[8],
-        vector: rest[9],
-    };
-    Logged {
-        kind: rest[0],
-        answer,
-    }
+    !((first == 16) | (first == 17))
 }
 
-// Ruled out: a little-endian value; a refusal above 4 taken; levels and mask exchanged.
-pub fn parse_answer(rest: &[u8]) -> Entry
-    ensures { λ r. ⌜ r ≡ entry (now (rest .entry)) ⌝ }
+fn other_kind(kind: u8, first: u8) -> bool
+    ensures { λ r. ⌜ r ≡ otherKind kind first ⌝ }
 {
-    if rest.len() < 10 {
+    !(kind == 0) & !(kind == first)
+}
+
+// The answers before it are of the kind given, or there are none and it is 0.
+// Ruled out: a refusal above 4 taken; an answer of another kind than those before it; a first byte of no kind that waits for more.
+pub fn parse_answer(kind: u8, rest: &[u8]) -> Entry
+    ensures { λ r. ⌜ r ≡ entry kind (now (rest .entry)) ⌝ }
+{
+    if rest.len() == 0 {
         return Entry::Cut;
     }
-    let l = logged_at(rest);
-    let a = l.answer;
-    tested(l.kind, a)
+    let first = rest[0];
+    if foreign_kind(first) {
+        return Entry::NoAnswer;
+    }
+    if other_kind(kind, first) {
+        return Entry::OtherKind;
+    }
+    if rest.len() < size_of(first) {
+        return Entry::Cut;
+    }
+    tested(logged_at(rest))
 }

@@ -10,6 +10,7 @@ use trace::Stop;
 // What is wrong with an answer of a log or a record of a trace.
 pub enum Fault {
     NoAnswer,
+    OtherKind,
     NoRefusal,
     NotDriven,
     NoRecord,
@@ -25,6 +26,7 @@ impl Line {
             Stop::UnknownKind => self.write(b"unknown record kind"),
             Stop::CutRecord => self.write(b"record cut by the end of the trace"),
             Stop::NoRoom => self.write(b"no room left for an answer"),
+            Stop::ClockLimit => self.write(b"hold past the clock's limit"),
         }
     }
 
@@ -32,7 +34,8 @@ impl Line {
         ensures { λ r. ⌜ r ≡ puts self (faultWords fault) ⌝ }
     {
         match fault {
-            Fault::NoAnswer => self.write(b"its first byte is not hex 10"),
+            Fault::NoAnswer => self.write(b"its first byte is neither hex 10 nor hex 11"),
+            Fault::OtherKind => self.write(b"it is of another kind than those before it"),
             Fault::NoRefusal => self.write(b"its refusal is above 4"),
             Fault::NotDriven => self.write(b"it gives the level of a pin that is not driven"),
             Fault::NoRecord => self.write(b"unknown record kind"),

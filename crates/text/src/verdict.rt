@@ -1,8 +1,9 @@
 // The line that says how two logs compare. Its first word is equal, differ or refused.
 ghost use mathlib.Core.Path.{_≡_};
 ghost use Rattle.text.specs.Line.{puts, Shows};
-ghost use Rattle.text.specs.Verdict.{equalLine, more, differLine, why, refusedLine};
+ghost use Rattle.text.specs.Verdict.{equalLine, more, differLine, why, refusedLine, expected, otherLine};
 use crate::line::Line;
+use crate::log::foreign_kind;
 
 // Ruled out: another number; another first word.
 pub fn equal_line(answers: u64) -> Line
@@ -39,6 +40,17 @@ impl Line {
             _ => self,
         }
     }
+
+    // What an answer of that kind should begin with; of no kind, either.
+    fn expected(self, kind: u8) -> Line
+        ensures { λ r. ⌜ r ≡ puts self (expected kind) ⌝ }
+    {
+        if foreign_kind(kind) {
+            self.write(b"10 or 11")
+        } else {
+            self.hex_byte(kind)
+        }
+    }
 }
 
 // So many of the answers that both logs have differ; what each has more.
@@ -65,5 +77,22 @@ pub fn refused_line(refusal: u8) -> Line
         .write(b"refused: refusal ")
         .decimal(3, refusal as u64)
         .why(refusal)
+        .put(10)
+}
+
+// Refusal 5: an answer of the log with that letter begins with a byte that is not the logs' kind.
+// Ruled out: number and place exchanged; the kind in place of the byte.
+pub fn other_line(letter: u8, answer: u64, place: u64, byte: u8, kind: u8) -> Line
+    ensures { λ r. ⌜ Shows r (otherLine letter answer place byte kind) ⌝ }
+{
+    Line::empty()
+        .write(b"refused: refusal 5, ")
+        .put(letter)
+        .write(b": ")
+        .located(b"answer ", answer, place)
+        .write(b" begins with hex ")
+        .hex_byte(byte)
+        .write(b", not hex ")
+        .expected(kind)
         .put(10)
 }

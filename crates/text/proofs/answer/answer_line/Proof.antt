@@ -7,15 +7,17 @@ use Rattle.text.proofs.answer.answer_line.Tie as tie
 
 returns : tie.Need-returns
 returns c =
-    let start = c .before .before .before .before in
+    let args = c .before .before .before .before .before .before .args in
     rw (
       c .put .ensures,
-      c .before .fields .ensures,
-      c .before .before .number .ensures,
-      c .before .before .before .empty .ensures,
+      c .before .clock .ensures,
+      c .before .before .fields .ensures,
+      c .before .before .before .number .ensures,
+      c .before .before .before .before .empty .ensures,
       put-puts,
-    ) (simp puts-append (shows (answerLine (start .args .n) (start .args .a)) (answer-fits (start .args .n) (start .args .a))))
+    ) (simp puts-append (shows (answerLine (args .n) (args .l)) (answer-fits (args .n) (args .l))))
 
 pub answer-line-spec : {M : Type 1} → statement M
 answer-line-spec =
-    tie.close (tie.spec (λ c κs. search needs) (λ c κs. search needs) (λ c κs. search needs) (λ c κs. search needs) returns)
+    tie.close
+    (tie.spec (λ c κs. search needs) (λ c κs. search needs) (λ c κs. search needs) (λ c κs. search needs) (λ c κs. search needs) returns)

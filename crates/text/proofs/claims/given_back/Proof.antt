@@ -1,11 +1,11 @@
 use Rattle.text.proofs.Decimal.{digits-give-back}
 use Rattle.text.proofs.Numbers.{numbers-give-back}
-use Rattle.text.proofs.ReadBack.{bytes-give-back}
+use Rattle.text.proofs.ReadBack.{bytes-give-back, plain-give-back, kinds-apart}
 use Rattle.text.proofs.claims.given_back.Statement.{statement}
 use Rattle.text.proofs.claims.given_back.Tie as tie
 
 returns : tie.Need-returns
-returns c = record { digits = digits-give-back; numbers = numbers-give-back; bytes = bytes-give-back }
+returns c = record { digits = digits-give-back; numbers = numbers-give-back; bytes = bytes-give-back; plain = plain-give-back; apart = kinds-apart }
 
 pub given-back-spec : {M : Type 1} → statement M
 given-back-spec = tie.close (tie.spec returns)

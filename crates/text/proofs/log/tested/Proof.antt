@@ -3,26 +3,13 @@ use Rattle.text.proofs.log.tested.Statement.{statement}
 use Rattle.text.proofs.log.tested.Tie as tie
 
 returns : tie.Need-returns
-returns c = rw (ne-eqb _ _ (c .if1 .taken))
+returns c = rw (lt-ltb _ _ (c .if1 .taken))
 
 returns-2 : tie.Need-returns-2
-returns-2 c = rw (c .before .before .if1 .left, lt-ltb _ _ (c .if2 .taken))
+returns-2 c = rw (le-ltb _ _ (c .before .before .before .if1 .left), ne-eqb _ _ (c .if2 .taken))
 
 returns-3 : tie.Need-returns-3
-returns-3 c =
-    rw (
-      c .before .before .before .before .before .if1 .left,
-      le-ltb _ _ (c .before .before .before .if2 .left),
-      ne-eqb _ _ (c .if3 .taken),
-    )
-
-returns-4 : tie.Need-returns-4
-returns-4 c =
-    rw (
-      c .before .before .before .before .before .if1 .left,
-      le-ltb _ _ (c .before .before .before .if2 .left),
-      eq-eqb _ _ (c .if3 .left),
-    )
+returns-3 c = rw (le-ltb _ _ (c .before .before .before .if1 .left), eq-eqb _ _ (c .if2 .left))
 
 pub tested-spec : {M : Type 1} → statement M
-tested-spec = tie.close (tie.spec returns returns-2 returns-3 returns-4)
+tested-spec = tie.close (tie.spec returns returns-2 returns-3)

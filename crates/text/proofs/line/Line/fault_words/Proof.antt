@@ -17,6 +17,9 @@ returns-4 c = rw (c .write4 .ensures, c .before .before .enum-told4 .given .1)
 returns-5 : tie.Need-returns-5
 returns-5 c = rw (c .write5 .ensures, c .before .before .enum-told5 .given .1)
 
+returns-6 : tie.Need-returns-6
+returns-6 c = rw (c .write6 .ensures, c .before .before .enum-told6 .given .1)
+
 pub fault-words-spec : {M : Type 1} → statement M
 fault-words-spec =
     tie.close
@@ -36,8 +39,12 @@ fault-words-spec =
     (λ c. search needs)
     (λ c. search needs)
     (λ c κs. search needs)
+    (λ c. search needs)
+    (λ c. search needs)
+    (λ c κs. search needs)
     returns
     returns-2
     returns-3
     returns-4
-    returns-5)
+    returns-5
+    returns-6)

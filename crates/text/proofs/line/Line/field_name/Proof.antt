@@ -23,10 +23,16 @@ returns-6 c = rw (c .write6 .ensures, c .before .before .enum-told6 .given .1)
 returns-7 : tie.Need-returns-7
 returns-7 c = rw (c .write7 .ensures, c .before .before .enum-told7 .given .1)
 
+returns-8 : tie.Need-returns-8
+returns-8 c = rw (c .write8 .ensures, c .before .before .enum-told8 .given .1)
+
 pub field-name-spec : {M : Type 1} → statement M
 field-name-spec =
     tie.close
     (tie.spec
+    (λ c. search needs)
+    (λ c. search needs)
+    (λ c κs. search needs)
     (λ c. search needs)
     (λ c. search needs)
     (λ c κs. search needs)
@@ -54,4 +60,5 @@ field-name-spec =
     returns-4
     returns-5
     returns-6
-    returns-7)
+    returns-7
+    returns-8)

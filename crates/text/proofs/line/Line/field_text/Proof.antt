@@ -31,10 +31,16 @@ returns-7 : tie.Need-returns-7
 unfolding fieldText
 returns-7 c = rw (c .hex-byte .ensures, c .before .enum-told7 .given .1)
 
+returns-8 : tie.Need-returns-8
+unfolding fieldText
+returns-8 c = rw (c .decimal .ensures, c .before .enum-told8 .given .1)
+
 pub field-text-spec : {M : Type 1} → statement M
 field-text-spec =
     tie.close
     (tie.spec
+    (λ c. search needs)
+    (λ c κs. search needs)
     (λ c. search needs)
     (λ c κs. search needs)
     (λ c. search needs)
@@ -55,4 +61,5 @@ field-text-spec =
     returns-4
     returns-5
     returns-6
-    returns-7)
+    returns-7
+    returns-8)

@@ -14,6 +14,9 @@ returns-3 c = rw (c .write3 .ensures, c .before .before .enum-told3 .given .1)
 returns-4 : tie.Need-returns-4
 returns-4 c = rw (c .write4 .ensures, c .before .before .enum-told4 .given .1)
 
+returns-5 : tie.Need-returns-5
+returns-5 c = rw (c .write5 .ensures, c .before .before .enum-told5 .given .1)
+
 pub stop-words-spec : {M : Type 1} → statement M
 stop-words-spec =
     tie.close
@@ -30,7 +33,11 @@ stop-words-spec =
     (λ c. search needs)
     (λ c. search needs)
     (λ c κs. search needs)
+    (λ c. search needs)
+    (λ c. search needs)
+    (λ c κs. search needs)
     returns
     returns-2
     returns-3
-    returns-4)
+    returns-4
+    returns-5)
