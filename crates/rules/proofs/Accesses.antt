@@ -5,13 +5,14 @@ use Prim.Native.Nat.{ℕ, _^_, _<_, _≤_}
 use lib.Dec.{eqb}
 use Rattle.qsm.specs.Lanes.{inMap}
 use Rattle.qsm.specs.Decision.{shaped, fits, barred, refusalOf, gate, admitted, decideRead, decideStored, decideWrite, storedBy}
-use Rattle.qsm.specs.Event.{accesses, resets, holds, reads, writes, does}
+use Rattle.qsm.specs.Event.{accesses, resets, reads, writes, does}
+use Rattle.qsm.proofs.Limit.{hold-if}
 use Rattle.qsm.specs.declared.state.Module.{Module}
 use Rattle.qsm.specs.declared.decision.Decision.{Decision}
 use Rattle.qsm.specs.declared.event.Access.{Access}
 use Rattle.qsm.specs.declared.event.Access.the-variants.{Read, Write}
 use Rattle.rules.specs.Refusals.{misshapen, malformed, unmapped, unprivileged, unmodelled, guarded}
-use Rattle.rules.specs.Demand1.{blocked, Refusal1, Refusal2, Privilege, Refusal3, Refusal4, Unchanged, Answered}
+use Rattle.rules.specs.Demand1.{gives, blocked, Refusal1, Refusal2, Privilege, Refusal3, Refusal4, Unchanged, Answered}
 use Rattle.rules.proofs.Bytes.{misshapen-is, malformed-is, unmapped-is, unprivileged-is}
 use Rattle.rules.proofs.Words.{unmodelled-is, guarded-is}
 use Rattle.rules.proofs.Order.{read-refusal, write-refusal, read-unchanged, write-unchanged, read-blocked, write-blocked, refusal-small, Tests, decided, gives-1, gives-2, gives-privilege, gives-3, gives-4, no-test}
@@ -122,5 +123,9 @@ answered-access m (Write s w o v) =
     (refusal-small (decideStored m (storedBy m w o v) s w o v))
 
 pub answers : Answered
-unfolding does resets holds
-answers = ((λ m. refl), (λ m pins rxd n. refl), answered-access)
+unfolding does resets
+answers = (
+  (λ m. refl),
+  (λ m pins rxd n. hold-if (λ d. gives 0 d ≡ not (gives 10 d)) m pins rxd n (λ h. refl) (λ h. refl)),
+  answered-access,
+)

@@ -1,8 +1,9 @@
 -- Demand 1, whole. Assumes nothing.
-use Rattle.trace.proofs.Laws.{records-read, known-and-whole, ten-bytes-each, earlier-stand}
+use Rattle.trace.proofs.Laws.{records-read, known-and-whole, bytes-each, earlier-stand}
 use Rattle.rules.specs.Demand1.{Demand1}
 use Rattle.rules.proofs.Accesses.{refusal1, refusal2, privilege, refusal3, refusal4, unchanged, answers}
-use Rattle.rules.proofs.Records.{refusal5, refusal6, refusal7, ends}
+use Rattle.rules.proofs.Limits.{refusal10}
+use Rattle.rules.proofs.Records.{refusal5, refusal6, refusal7, refusal10-of-record, ends}
 
 pub demand1 : Demand1
 demand1 =
@@ -13,13 +14,15 @@ demand1 =
       refusal3 = refusal3;
       refusal4 = refusal4;
       unchanged = unchanged;
+      refusal10 = refusal10;
       answered = answers;
       refusal5 = refusal5;
       refusal6 = refusal6;
       refusal7 = refusal7;
+      refusal10-of-record = refusal10-of-record;
       ends = ends;
       records-read = records-read;
       known-and-whole = known-and-whole;
       earlier-stand = earlier-stand;
-      ten-bytes-each = ten-bytes-each;
+      bytes-each = bytes-each;
     }

@@ -4,5 +4,6 @@ pub mod Bytes
 pub mod Words
 pub mod Order
 pub mod Accesses
+pub mod Limits
 pub mod Records
 pub mod Demand1

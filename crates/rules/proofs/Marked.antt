@@ -29,9 +29,10 @@ use Rattle.qsm.specs.declared.event.Access.the-variants.{Read}
 use Rattle.qsm.specs.declared.event.Event.the-variants.{Reset}
 use Rattle.qsm.specs.declared.event.Event.the-variants as event
 use Rattle.steps.specs.Iterate.{iterate}
-use Rattle.trace.specs.Trace.{everyKind}
+use Rattle.trace.specs.Trace.{reader}
 use Rattle.trace.specs.Play.{Outcome, answered, followed, stopped, play}
 use Rattle.trace.proofs.Playing.{one-on, play-none}
+use Rattle.rules.proofs.Limits.{reset-free, access-free}
 use Rattle.rules.specs.Marked.{trace, answers, K12, Marked}
 
 k1 : K1 ≡ true
@@ -63,17 +64,17 @@ unfolding has raise raiseIf fall fallIf markSeen fallSeen startBit dataBit stopB
 k11 = refl
 
 -- The two records, one after the other.
-two : (m : Module) (room : ℕ) → 20 ≤ room →
+two : (m : Module) (room : ℕ) → 36 ≤ room →
     play m trace room
     ≡ followed (answered (step m Reset) (take 1 trace))
     (followed (answered (step (step m Reset .state) (event.Access (Read true 2 0x0C))) (take 4 (drop 1 trace)))
     (stopped (step (step m Reset .state) (event.Access (Read true 2 0x0C)) .state) 0))
 two m room enough =
-    one-on everyKind m trace room Reset 1 refl (omega arith)
+    one-on reader m trace room Reset 1 refl (omega arith) (reset-free m)
     ∙ ap (followed (answered (step m Reset) (take 1 trace)))
-    (one-on everyKind (step m Reset .state) (drop 1 trace) (room - 10) (event.Access (Read true 2 0x0C)) 4 refl (omega arith)
+    (one-on reader (step m Reset .state) (drop 1 trace) (room - 18) (event.Access (Read true 2 0x0C)) 4 refl (omega arith) (access-free (step m Reset .state) (Read true 2 0x0C))
     ∙ ap (followed (answered (step (step m Reset .state) (event.Access (Read true 2 0x0C))) (take 4 (drop 1 trace))))
-    (play-none everyKind (step (step m Reset .state) (event.Access (Read true 2 0x0C)) .state) [] (room - 10 - 10) refl))
+    (play-none reader (step (step m Reset .state) (event.Access (Read true 2 0x0C)) .state) [] (room - 18 - 18) refl))
 
 k12 : K12
 unfolding has step does resets reads answerOf afterRead readValue refused resetModule reset request mask owned ownLevels levels decideRead admitted inMap isRestricted decode fetched fetch iterate peek peekSerial serialRead queueRead markSeen

@@ -1,9 +1,9 @@
--- Demand 1: each of the seven refusals, and privilege, is given exactly when its condition holds and none earlier in the order does:
--- 1, 2, privilege, 3, 4 for an access; 5, 6, 7 for a record. None changes anything.
+-- Demand 1: each of the seven refusals, the tenth (02, L9) and privilege, is given exactly when its condition holds and none earlier in the order
+-- does: 1, 2, privilege, 3, 4 for an access; 10 for a hold; 5, 6, 7, 10 for a record. None changes anything.
 use mathlib.Core.Path.{_≡_}
 use mathlib.Core.Bool.{Bool, true, false, not, _&&_}
 use mathlib.Core.List.{List}
-use Prim.Native.Nat.{ℕ, _-_, _^_, _<_, _≤_}
+use Prim.Native.Nat.{ℕ, _+_, _-_, _^_, _<_, _≤_}
 use lib.Dec.{eqb, ltb}
 use lib.ListN.{length}
 use Rattle.qsm.specs.Decision.{decideRead, decideWrite}
@@ -17,8 +17,8 @@ use Rattle.qsm.specs.declared.event.Event.the-variants.{Reset, Hold}
 use Rattle.qsm.specs.declared.event.Event.the-variants as event
 use Rattle.qsm.specs.declared.event.Done.{Done}
 use Rattle.trace.specs.Play.{play}
-use Rattle.trace.specs.Laws.{unread, unknown, cut, RecordsRead, KnownAndWhole, EarlierStand, TenBytesEach}
-use Rattle.rules.specs.Refusals.{misshapen, malformed, unmapped, unprivileged, unmodelled, guarded}
+use Rattle.trace.specs.Laws.{unread, unknown, cut, RecordsRead, KnownAndWhole, EarlierStand, BytesEach}
+use Rattle.rules.specs.Refusals.{misshapen, malformed, unmapped, unprivileged, unmodelled, guarded, pastLimit}
 
 -- An access, and the refusal that it is given.
 abbrev pub read : Module → Bool → ℕ → ℕ → Done
@@ -82,11 +82,19 @@ Unchanged =
     × ((m : Module) (s : Bool) (w o : ℕ) → blocked (decideRead m s w o) ≡ true → read m s w o ≡ done m 0 0)
     × ((m : Module) (s : Bool) (w o v : ℕ) → blocked (decideWrite m s w o v) ≡ true → write m s w o v ≡ done m 0 0)
 
--- Every event is answered: a reset and a hold with no refusal, an access with none or one of 1 to 4.
+-- A hold that would pass 2^64 - 1 clocks since reset. Nothing changes, the input levels included.
+abbrev pub Refusal10 : Type 0
+Refusal10 =
+    ((m : Module) (pins : ℕ) (rxd : Bool) (n : ℕ) → gives 10 (does m (Hold pins rxd n)) ≡ ltb (2 ^ 64 - 1) (m .clock + n))
+    × ((m : Module) (pins : ℕ) (rxd : Bool) (n : ℕ) → gives 10 (does m (Hold pins rxd n)) ≡ true →
+    does m (Hold pins rxd n) ≡ done m 10 0)
+
+-- Every event is answered: a reset with no refusal, a hold with none or 10, an access with none or one of 1 to 4.
 abbrev pub Answered : Type 0
 Answered =
     ((m : Module) → does m Reset .refusal ≡ 0)
-    × ((m : Module) (pins : ℕ) (rxd : Bool) (n : ℕ) → does m (Hold pins rxd n) .refusal ≡ 0)
+    × ((m : Module) (pins : ℕ) (rxd : Bool) (n : ℕ) →
+    gives 0 (does m (Hold pins rxd n)) ≡ not (gives 10 (does m (Hold pins rxd n))))
     × ((m : Module) (a : Access) → does m (event.Access a) .refusal ≤ 4)
 
 -- Where a trace that was played stands: what is left of it, and of the room.
@@ -111,20 +119,28 @@ Refusal6 =
     (m : Module) (t : List ℕ) (room : ℕ) →
     stops 6 m t room ≡ not (over (rest m t room)) && not (unknown (rest m t room)) && cut (rest m t room)
 
--- Fewer than 10 output bytes left.
+-- Fewer than 18 output bytes left.
 abbrev pub Refusal7 : Type 0
 Refusal7 =
     (m : Module) (t : List ℕ) (room : ℕ) →
     stops 7 m t room
     ≡ not (over (rest m t room)) && not (unknown (rest m t room)) && not (cut (rest m t room))
-    && ltb (left m t room) 10
+    && ltb (left m t room) 18
+
+-- A hold that would pass 2^64 - 1 clocks, of the module that the records before it left.
+abbrev pub Refusal10OfRecord : Type 0
+Refusal10OfRecord =
+    (m : Module) (t : List ℕ) (room : ℕ) →
+    stops 10 m t room
+    ≡ not (over (rest m t room)) && not (unknown (rest m t room)) && not (cut (rest m t room))
+    && not (ltb (left m t room) 18) && pastLimit (play m t room .state) (rest m t room)
 
 -- Nothing else stops a trace.
 abbrev pub Ends : Type 0
 Ends = (m : Module) (t : List ℕ) (room : ℕ) → stops 0 m t room ≡ over (rest m t room)
 
 -- The laws of a trace say the rest: what was answered is the trace's beginning, and each record of it is of a known kind and whole, so that
--- 5 and 6 are given at the first that isn't; after 5 to 7 the module is as after the records answered, and their answers stand. The contract
+-- 5 and 6 are given at the first that isn't; after 5 to 7 and 10 the module is as after the records answered, and their answers stand. The contract
 -- of `play` says that the output past them is unchanged.
 pub record Demand1 : Type 0 where
   pub refusal1 : Refusal1
@@ -133,12 +149,14 @@ pub record Demand1 : Type 0 where
   pub refusal3 : Refusal3
   pub refusal4 : Refusal4
   pub unchanged : Unchanged
+  pub refusal10 : Refusal10
   pub answered : Answered
   pub refusal5 : Refusal5
   pub refusal6 : Refusal6
   pub refusal7 : Refusal7
+  pub refusal10-of-record : Refusal10OfRecord
   pub ends : Ends
   pub records-read : RecordsRead
   pub known-and-whole : KnownAndWhole
   pub earlier-stand : EarlierStand
-  pub ten-bytes-each : TenBytesEach
+  pub bytes-each : BytesEach

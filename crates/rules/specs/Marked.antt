@@ -1,4 +1,4 @@
--- Document 01, Marked examples: K1 to K12, one statement over a list of them.
+-- Document 01, Marked examples: K1 to K12, one statement over a list of them. K12 has answers of kind 11 (02, L9).
 use mathlib.Core.Path.{_≡_}
 use mathlib.Core.Bool.{true}
 use mathlib.Core.List.{List, [], _∷_}
@@ -19,13 +19,15 @@ trace = 0x01 ∷ 0x03 ∷ 0x82 ∷ 0x00 ∷ 0x0C ∷ []
 
 abbrev pub answers : List ℕ
 answers =
-    0x10 ∷ 0x00 ∷ 0x00 ∷ 0x00 ∷ 0x00 ∷ 0x00 ∷ 0x00 ∷ 0x00 ∷ 0x00 ∷ 0x00 ∷
-    0x10 ∷ 0x00 ∷ 0x00 ∷ 0x00 ∷ 0x01 ∷ 0x80 ∷ 0x00 ∷ 0x00 ∷ 0x00 ∷ 0x00 ∷ []
+    0x11 ∷ 0x00 ∷ 0x00 ∷ 0x00 ∷ 0x00 ∷ 0x00 ∷ 0x00 ∷ 0x00 ∷ 0x00 ∷ 0x00 ∷
+    0x00 ∷ 0x00 ∷ 0x00 ∷ 0x00 ∷ 0x00 ∷ 0x00 ∷ 0x00 ∷ 0x00 ∷
+    0x11 ∷ 0x00 ∷ 0x00 ∷ 0x00 ∷ 0x01 ∷ 0x80 ∷ 0x00 ∷ 0x00 ∷ 0x00 ∷ 0x00 ∷
+    0x00 ∷ 0x00 ∷ 0x00 ∷ 0x00 ∷ 0x00 ∷ 0x00 ∷ 0x00 ∷ 0x00 ∷ []
 
 -- The trace above, whatever module it starts from, where there is room for its answers.
 abbrev pub K12 : Type 0
 K12 =
-    (m : Module) (room : ℕ) → 20 ≤ room → (play m trace room .answers ≡ answers) × (play m trace room .stop ≡ 0)
+    (m : Module) (room : ℕ) → 36 ≤ room → (play m trace room .answers ≡ answers) × (play m trace room .stop ≡ 0)
 
 abbrev pub examples : List (Type 0)
 examples =

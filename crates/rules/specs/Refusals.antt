@@ -1,6 +1,8 @@
--- Document 01, Seven refusals: the table's conditions on an access in its own words. Those on a record are among the laws of a trace.
+-- Document 01, Seven refusals: the table's conditions on an access in its own words; and 10 (02, L9) of a record. The other conditions on a record
+-- are among the laws of a trace.
 use mathlib.Core.Bool.{Bool, true, false, cond, not, _&&_, _||_}
-use Prim.Native.Nat.{ℕ, zero, suc, _+_, _/_, _%_, _^_}
+use mathlib.Core.List.{List}
+use Prim.Native.Nat.{ℕ, zero, suc, _+_, _-_, _/_, _%_, _^_}
 use lib.Dec.{eqb, ltb, leb}
 use Rattle.steps.specs.Bits.{bit, word, merge}
 use Rattle.sci.specs.Transmitter.{runs}
@@ -10,6 +12,7 @@ use Rattle.qsm.specs.Map.{from, decode}
 use Rattle.qsm.specs.Word.{put}
 use Rattle.qsm.specs.Lanes.{upperLane, lowerLane}
 use Rattle.qsm.specs.declared.state.Module.{Module}
+use Rattle.trace.specs.Trace.{byteAt, wordAt, longAt}
 
 -- Some byte touched, of so many from an offset on, is one of these.
 abbrev pub touches : (ℕ → Bool) → ℕ → ℕ → Bool
@@ -95,3 +98,9 @@ unmodelled = either setsUnmodelled
 -- 4: a write changes a guarded field while its half is on.
 abbrev pub guarded : Module → ℕ → ℕ → ℕ → Bool
 guarded = either changesGuarded
+
+-- 10, of the record at the start of a trace: 02, a hold of 2 bytes' clocks, or 05, one of 4, would pass 2^64 - 1.
+abbrev pub pastLimit : Module → List ℕ → Bool
+pastLimit m t =
+    cond (eqb (byteAt t 0) 2) (ltb (2 ^ 64 - 1) (m .clock + wordAt t 3))
+    (cond (eqb (byteAt t 0) 5) (ltb (2 ^ 64 - 1) (m .clock + longAt t 3)) false)
