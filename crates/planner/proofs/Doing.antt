@@ -14,16 +14,18 @@ use Rattle.qspi.specs.Run.{run}
 use Rattle.qspi.specs.Laws.{Calm}
 use Rattle.qspi.specs.declared.Qspi.{Qspi}
 use Rattle.qspi.specs.declared.Pins.{Pins}
-use Rattle.qsm.specs.Event.{answerOf, clocks, holds, does, step}
+use Rattle.qsm.specs.Event.{answerOf, clockLimit, clocks, step}
 use Rattle.qsm.specs.PinClauses.{SPE, assigned, DrivenAt, OutputAt, PinClauses}
 use Rattle.qsm.specs.declared.state.Module.{Module}
 use Rattle.qsm.specs.declared.event.Event.the-variants.{Hold}
+use Rattle.qsm.specs.declared.event.Done.{Done}
+use Rattle.qsm.proofs.Limit.{hold-played, is-room}
 use Rattle.qsm.proofs.PinClauses.{pins}
 use Rattle.qsm.proofs.Reading.{spcr1-read}
 use Rattle.planner.specs.Check.{bitsNo, wordNo}
 use Rattle.planner.specs.Accepted.{Accepted}
 use Rattle.planner.specs.Loading.{loading}
-use Rattle.planner.specs.Running.{played, Span, total, ran, NoFault, Ready, Sized, startOf, edgeNo, Within, readIn, Does, DoesWhatItSays}
+use Rattle.planner.specs.Running.{played, Span, total, ran, Counts, NoFault, Ready, Sized, startOf, edgeNo, Within, readIn, Does, DoesWhatItSays}
 use Rattle.planner.specs.declared.SetPoints.{SetPoints}
 use Rattle.planner.specs.declared.Plan.{Plan}
 use Rattle.planner.proofs.Meaning.{means}
@@ -37,9 +39,11 @@ use Rattle.planner.proofs.Sending.{Shows, shows, bit-read, read-in}
 use Rattle.planner.proofs.Resting.{rests, early}
 
 -- The pins of a module, as the answer to a hold of no clocks shows them.
-pins-of : (m : Module) → PinClauses m (answerOf m 0 0)
-unfolding step does holds clocks iterate
-pins-of m = pins m (Hold (m .inputs) false 0)
+pins-of : (m : Module) → m .clock ≤ clockLimit → PinClauses m (answerOf m 0 0)
+unfolding step clocks iterate
+pins-of m room =
+    subst (λ (d : Done). PinClauses (d .state) (answerOf (d .state) (d .refusal) (d .value)))
+    (hold-played m (m .inputs) false 0 (is-room m 0 (omega arith))) (pins m (Hold (m .inputs) false 0))
 
 spe-of : (m : Module) → spe (m .qspi .registers .spcr1) ≡ true → SPE m ≡ true
 spe-of m on = ap (bit 15) (spcr1-read m) ∙ on
@@ -53,7 +57,7 @@ no-fault-same [] m n e f calm = tt
 no-fault-same (h ∷ hs) m n e f calm = (rw (e, f) (calm .0), no-fault-same hs m n e f (calm .1))
 
 module _ (s : SetPoints) (window : ℕ) (p : Plan) (m : Module) (hs : List Span) (a : Accepted s window p) (sized : Sized p) (r : Ready m)
-    (calm : NoFault m hs) where
+    (counts : Counts m hs) (calm : NoFault m hs) where
   -- The module when the plan is loaded, and when the holds are over.
   abbrev l : Module
   l = played (loading p) m
@@ -70,11 +74,18 @@ module _ (s : SetPoints) (window : ℕ) (p : Plan) (m : Module) (hs : List Span)
   ddrqs-l : l .ddrqs ≡ m .ddrqs
   ddrqs-l = ap (λ (k : Module). k .ddrqs) (loaded s window p m a sized r) ∙ writes.pins-stay s window p m a sized r .1
 
+  room : l .clock + total hs ≤ clockLimit
+  room =
+      omega (arith, ap (λ (k : Module). k .clock) (loaded s window p m a sized r), writes.pins-stay s window p m a sized r .2)
+
+  in-count : x .clock ≤ clockLimit
+  in-count = holds-in-turn.pins-stay hs l room .2
+
   mosi-assigned : assigned x 1 ≡ true
-  mosi-assigned = ap (bit 1) (holds-in-turn.pins-stay hs l .0 ∙ pqspar-l) ∙ r .mosi-assigned
+  mosi-assigned = ap (bit 1) (holds-in-turn.pins-stay hs l room .0 ∙ pqspar-l) ∙ r .mosi-assigned
 
   mosi-output : bit 1 (x .ddrqs) ≡ true
-  mosi-output = ap (bit 1) (holds-in-turn.pins-stay hs l .1 ∙ ddrqs-l) ∙ r .mosi-output
+  mosi-output = ap (bit 1) (holds-in-turn.pins-stay hs l room .1 ∙ ddrqs-l) ∙ r .mosi-output
 
   abbrev levels : ℕ → Pins
   levels = pinsIn (l .pqspar) (l .ddrqs) hs
@@ -83,7 +94,7 @@ module _ (s : SetPoints) (window : ℕ) (p : Plan) (m : Module) (hs : List Span)
   quiet = no-fault hs l (no-fault-same hs m l pqspar-l ddrqs-l calm)
 
   is-run : x .qspi ≡ run levels (total hs) (l .qspi)
-  is-run = holds-run hs l
+  is-run = holds-run hs l room
 
   shown : (k j : ℕ) → k < s .count → j < bitsNo s k * 2 → Within p k j (total hs) → Shows s p k j (x .qspi)
   shown k j less few w =
@@ -102,7 +113,7 @@ module _ (s : SetPoints) (window : ℕ) (p : Plan) (m : Module) (hs : List Span)
       let at : AtEntry p (l .qspi) levels k r = at-entry s window p a (l .qspi) st levels quiet k (omega (arith, a .once)) in
       let within : total hs < p .clock = early s window p a (l .qspi) r levels quiet k (total hs) next low high at in
       subst (DrivenAt (answerOf x 0 0) 2) (ap sck is-run ∙ rests s window p a (l .qspi) r levels quiet k (total hs) next low high at)
-      (pins-of x .clock (spe-of x (enabled ∙ lt-ltb (total hs) (p .clock) within)))
+      (pins-of x in-count .clock (spe-of x (enabled ∙ lt-ltb (total hs) (p .clock) within)))
 
   sends : (k i : ℕ) → k < s .count → i < bitsNo s k → total hs ≡ readIn p k i →
       DrivenAt (answerOf x 0 0) 1 (bit (bitsNo s k - 1 - i) (wordNo s k))
@@ -112,7 +123,7 @@ module _ (s : SetPoints) (window : ℕ) (p : Plan) (m : Module) (hs : List Span)
       let level : x .qspi .entry .mosi ≡ bit (bitsNo s k - 1 - i) (wordNo s k) =
       sh .data-out (λ e. omega arith) ∙ ap (λ (n : ℕ). bit (bitsNo s k - 1 - n) (wordNo s k)) (bit-read (cpha (p .spcr0)) i) in
       driven-at x 1 _ mosi-output
-      (subst (OutputAt x (answerOf x 0 0) 1) level (pins-of x .data-out (spe-of x (sh .on)) mosi-assigned))
+      (subst (OutputAt x (answerOf x 0 0) 1) level (pins-of x in-count .data-out (spe-of x (sh .on)) mosi-assigned))
 
   does-all : Does s p x (total hs)
   does-all =
@@ -123,14 +134,14 @@ module _ (s : SetPoints) (window : ℕ) (p : Plan) (m : Module) (hs : List Span)
         clocks =
             λ k j less few w.
             let sh : Shows s p k j (x .qspi) = shown k j less few w in
-            subst (DrivenAt (answerOf x 0 0) 2) (sh .clock) (pins-of x .clock (spe-of x (sh .on)));
+            subst (DrivenAt (answerOf x 0 0) 2) (sh .clock) (pins-of x in-count .clock (spe-of x (sh .on)));
         rests = resting;
         selects =
             λ k j i less few w four mine.
             let sh : Shows s p k j (x .qspi) = shown k j less few w in
             subst (OutputAt x (answerOf x 0 0) (3 + i)) (ap (bit i) (sh .select (x .portqs)))
-            (pins-of x .selects i four (spe-of x (sh .on)) mine);
+            (pins-of x in-count .selects i four (spe-of x (sh .on)) mine);
       }
 
 pub does-what-it-says : DoesWhatItSays
-does-what-it-says s window p m hs h sized r calm = does-all s window p m hs (means s window p .0 h) sized r calm
+does-what-it-says s window p m hs h sized r counts calm = does-all s window p m hs (means s window p .0 h) sized r counts calm

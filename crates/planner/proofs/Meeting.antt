@@ -17,7 +17,7 @@ use Rattle.qsm.specs.State.{resetModule}
 use Rattle.qsm.specs.Event.{writes, does}
 use Rattle.planner.specs.Check.{each, proper, clockBefore, accepts}
 use Rattle.planner.specs.Quickest.{commandsOf, otherCount, proposal, ifAccepted}
-use Rattle.planner.specs.Running.{Ready, NoFault}
+use Rattle.planner.specs.Running.{Ready, Counts, NoFault}
 use Rattle.planner.specs.Example.{byHand, set-up, hold, Example}
 
 all-zero : (n i : ℕ) → getD {A = ℕ} (replicate n 0) i 0 ≡ 0
@@ -48,6 +48,10 @@ no-fault : NoFault set-up (hold ∷ [])
 unfolding does writes decideStored admitted inMap storedBy stored store iterate decode put putOwn unmodelled guarded ownUnmodelled resetModule reset
 no-fault = (refl, tt)
 
+counts : Counts set-up (hold ∷ [])
+unfolding does writes decideStored admitted inMap storedBy stored store iterate decode put putOwn unmodelled guarded ownUnmodelled resetModule reset
+counts = let none : set-up .clock ≡ 0 = refl in omega (arith, none)
+
 pub example : Example
 unfolding each proper clockBefore accepts commandsOf otherCount proposal ifAccepted bitsOf preDelay delayAfter
 example =
@@ -58,5 +62,6 @@ example =
       no-plan = refl;
       sized = record { spcr0 = omega arith; spcr1 = omega arith; spcr2 = omega arith; commands = command-small };
       ready = ready;
+      counts = counts;
       no-fault = no-fault;
     }

@@ -187,6 +187,10 @@ module _ (s : SetPoints) (window : ℕ) (p : Plan) (m : Module) (a : Accepted s 
       })
 
   -- The pin registers stay.
-  pub pins-stay : (n₃ .pqspar ≡ m .pqspar) × (n₃ .ddrqs ≡ m .ddrqs)
+  pub pins-stay : (n₃ .pqspar ≡ m .pqspar) × (n₃ .ddrqs ≡ m .ddrqs) × (n₃ .clock ≡ m .clock)
   unfolding put
-  pins-stay = (ap (λ (x : Module). x .pqspar) (e .aside .rest), ap (λ (x : Module). x .ddrqs) (e .aside .rest))
+  pins-stay = (
+    ap (λ (x : Module). x .pqspar) (e .aside .rest),
+    ap (λ (x : Module). x .ddrqs) (e .aside .rest),
+    ap (λ (x : Module). x .clock) (e .aside .rest),
+  )

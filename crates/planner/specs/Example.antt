@@ -8,7 +8,7 @@ use Rattle.qsm.specs.declared.state.Module.{Module}
 use Rattle.planner.specs.Check.{accepts}
 use Rattle.planner.specs.Quickest.{noPlan, planned}
 use Rattle.planner.specs.Loading.{writing}
-use Rattle.planner.specs.Running.{played, Span, NoFault, Ready, Sized}
+use Rattle.planner.specs.Running.{played, Span, Counts, NoFault, Ready, Sized}
 use Rattle.planner.specs.declared.SetPoints.{SetPoints}
 use Rattle.planner.specs.declared.Plan.{Plan}
 
@@ -50,4 +50,5 @@ pub record Example : Type 0 where
   pub no-plan : planned points 94 ≡ noPlan
   pub sized : Sized byHand
   pub ready : Ready set-up
+  pub counts : Counts set-up (hold ∷ [])
   pub no-fault : NoFault set-up (hold ∷ [])

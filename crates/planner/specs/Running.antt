@@ -10,7 +10,7 @@ use Rattle.steps.specs.Bits.{bit}
 use Rattle.qspi.specs.Fields.{cpol, cpha, spbr, spe, halt, preDelay}
 use Rattle.qspi.specs.Queue.{selected}
 use Rattle.qspi.specs.Run.{edgeAt}
-use Rattle.qsm.specs.Event.{answerOf, does}
+use Rattle.qsm.specs.Event.{answerOf, clockLimit, does}
 use Rattle.qsm.specs.PinClauses.{assigned, DrivenAt, OutputAt}
 use Rattle.qsm.specs.declared.state.Module.{Module}
 use Rattle.qsm.specs.declared.event.Event.{Event}
@@ -102,7 +102,11 @@ pub record Does (s : SetPoints) (p : Plan) (m : Module) (c : ℕ) : Type 0 where
   pub selects : (k j i : ℕ) → k < s .count → j < bitsNo s k * 2 → Within p k j c → i < 4 → assigned m (3 + i) ≡ true →
       OutputAt m (answerOf m 0 0) (3 + i) (bit i (selectNo s k))
 
+-- No hold is refused 10: the module's clocks stay within 2^64 - 1.
+abbrev pub Counts : Module → List Span → Type 0
+Counts m hs = m .clock + total hs ≤ clockLimit
+
 abbrev pub DoesWhatItSays : Type 0
 DoesWhatItSays =
     (s : SetPoints) (window : ℕ) (p : Plan) (m : Module) (hs : List Span) → accepts s window p ≡ true → Sized p → Ready m →
-    NoFault m hs → Does s p (ran p m hs) (total hs)
+    Counts m hs → NoFault m hs → Does s p (ran p m hs) (total hs)
