@@ -21,7 +21,7 @@ use Rattle.qsm.specs.declared.state.Module.{Module}
 use Rattle.qsm.specs.declared.event.Access.the-variants.{Read, Write}
 use Rattle.qsm.specs.declared.event.Event.the-variants.{Reset, Hold}
 use Rattle.qsm.specs.declared.event.Event.the-variants as event
-use Rattle.histories.specs.History.{after, receiverRead, freshWord, clockMarks}
+use Rattle.histories.specs.History.{after, receiverRead, playedClocks, freshWord, clockMarks}
 use Rattle.histories.proofs.Follows.{follows}
 use Rattle.arrivals.specs.Words.{Word, brought, clockWords, bitsOf, figuresOf, came}
 use Rattle.arrivals.specs.Arrival.{fills, inScdr, told, figureOf}
@@ -59,7 +59,7 @@ read-came false scsr w = refl
 
 pub as-marked : AsMarked
 as-marked Reset m = refl
-as-marked (Hold pins rxd n) m = hold-came n rxd (held m pins)
+as-marked (Hold pins rxd n) m = hold-came (playedClocks m n) rxd (held m pins)
 as-marked (event.Access (Read supervisor width offset)) m =
     read-came (receiverRead m supervisor width offset) (touches 0x0C 2 width offset)
     (freshWord m (after (event.Access (Read supervisor width offset)) m))
@@ -79,9 +79,10 @@ reset-clear : (m : Module) → full (after Reset m .sci) ≡ false
 unfolding does resets resetModule has
 reset-clear m = refl
 
-hold-told : (pins : ℕ) (rxd : Bool) (n : ℕ) (m : Module) → clockWords n rxd (held m pins) ≡ told m (after (Hold pins rxd n) m)
+hold-told : (pins : ℕ) (rxd : Bool) (n : ℕ) (m : Module) →
+    clockWords (playedClocks m n) rxd (held m pins) ≡ told m (after (Hold pins rxd n) m)
 hold-told pins rxd n m =
-    clock-words n rxd (held m pins) ∙ serial-words n rxd (m .sci)
+    clock-words (playedClocks m n) rxd (held m pins) ∙ serial-words (playedClocks m n) rxd (m .sci)
     ∙ ap (λ (s : Sci). cond (rises (full (m .sci)) (full s)) (kept s ∷ []) []) (sym (follows (Hold pins rxd n) m))
 
 pub event-told : Told

@@ -5,7 +5,7 @@ use Prim.Native.Nat.{ℕ, _<_}
 use native.Mathlib.Omega.{arith}
 use lib.ListN.{length}
 use Rattle.qsm.specs.declared.state.Module.{Module}
-use Rattle.trace.specs.Trace.{everyKind, parsed}
+use Rattle.trace.specs.Trace.{parsed, reader}
 use Rattle.trace.specs.Play.{Outcome, play}
 use Rattle.trace.specs.Laws.{unread, Streamed, streamed}
 use Rattle.trace.specs.declared.Parsed.{Parsed}
@@ -21,8 +21,8 @@ use Rattle.arrivals.proofs.Events.{event-told, still}
 pub state-left : StateLeft
 unfolding leaves
 state-left =
-    played everyKind (λ m t room o. o .state ≡ leaves (o .records) m) (λ m t room why end. refl)
-    (λ m t room e n o is pos le fits h. rw (record-alone t is) h)
+    played reader (λ m t room o. o .state ≡ leaves (o .records) m) (λ m t room why end. refl)
+    (λ m t room e n o is pos le fits free h. rw (record-alone t is) h)
 
 record-told : (p : Parsed) (m : Module) → recordWords p m ≡ told m (recordLeaves p m)
 record-told (Record e n) m = event-told e m ∙ ap (told m) (stepped m e)

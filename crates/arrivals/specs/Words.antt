@@ -17,6 +17,7 @@ use Rattle.qsm.specs.declared.event.Event.the-variants as event
 use Rattle.trace.specs.Trace.{parsed}
 use Rattle.trace.specs.declared.Parsed.{Parsed}
 use Rattle.trace.specs.declared.Parsed.the-variants.{Record, Unknown, Cut}
+use Rattle.histories.specs.History.{playedClocks}
 
 -- Nine bits, and the noise figure.
 pub record Word : Type 0 where
@@ -35,10 +36,10 @@ clockWords zero rxd m = []
 clockWords (suc n) rxd m =
     cond (comes (m .sci) rxd) (brought (m .sci) rxd ∷ []) [] ++ clockWords n rxd (clockModule rxd m)
 
--- Words come only while a level is held.
+-- Words come only while a level is held; none where the hold is refused 10.
 abbrev pub eventWords : Event → Module → List Word
 eventWords Reset m = []
-eventWords (Hold pins rxd n) m = clockWords n rxd (held m pins)
+eventWords (Hold pins rxd n) m = clockWords (playedClocks m n) rxd (held m pins)
 eventWords (event.Access a) m = []
 
 -- The words of the records that a trace's play answered, and the module that they leave.

@@ -57,7 +57,7 @@ module _ (f : Frame) (q : Two) (d : Sends f q) where
   begins = record { sample = d .begins .sample; frame = d .begins .frame }
 
   pub at-begun : wire.begun (onWire f q) (halves q) ≡ halves b
-  at-begun = clock-halves (f .first) q (line-driven (q .sender) (f .first .undriven) (begins-driven (q .sender) (d .begins)))
+  at-begun = clock-halves (f .first) q (d .counts) (line-driven (q .sender) (f .first .undriven) (begins-driven (q .sender) (d .begins)))
 
   drives : Drives n (halves b)
   drives fs h =
@@ -81,7 +81,7 @@ module _ (f : Frame) (q : Two) (d : Sends f q) where
   pub at-ended : wire.ended (onWire f q) (halves q) ≡ halves (ended f q)
   at-ended =
       ap (λ (w : Wired). step (wire.clock (f .last .rxd)) (steps (project (f .later) b) w)) at-begun
-      ∙ ap (step (wire.clock (f .last .rxd))) at-later ∙ clock-halves (f .last) (play (f .later) b) last-plain
+      ∙ ap (step (wire.clock (f .last .rxd))) at-later ∙ clock-halves (f .last) (play (f .later) b) (d .counts-last) last-plain
 
   sends : wire.Sends (onWire f q) (halves q)
   sends =

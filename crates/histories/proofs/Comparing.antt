@@ -3,6 +3,7 @@ use mathlib.Core.Path.{_≡_, refl, ap, sym, subst, _∙_}
 use mathlib.Core.Bool.{Bool, true, false}
 use mathlib.Core.List.{List, [], _∷_}
 use Prim.Native.Nat.{ℕ, zero, suc, _+_, _*_, _/_, _%_, _^_, _≤_, _<_}
+use native.Mathlib.Nat.{add-mul}
 use native.Mathlib.Omega.{arith}
 use lib.Dec.{eqb}
 use lib.ListN.{replicate}
@@ -17,6 +18,7 @@ use Rattle.sci.specs.History.{Step, writesSccr0, writesSccr1}
 use Rattle.sci.specs.History as sci
 use Rattle.sci.specs.declared.serial.Sci.{Sci}
 use Rattle.qsm.specs.State.{resetModule}
+use Rattle.qsm.specs.Event.{clockLimit}
 use Rattle.qsm.specs.Map.{decode}
 use Rattle.qsm.specs.Lanes.{inMap}
 use Rattle.qsm.specs.Word.{unmodelled, guarded}
@@ -30,6 +32,7 @@ use Rattle.qsm.specs.declared.event.Event.the-variants as event
 use Rattle.histories.specs.History.{after, run, Unbroken, ops}
 use Rattle.histories.specs.Demand3.{Compared, Comparison, Comparable, Demand3}
 use Rattle.histories.proofs.Follows.{steps, follows}
+use Rattle.histories.proofs.Room.{access-count, all-counted, reset-none}
 use Rattle.histories.proofs.Touches.{reads-alike}
 use Rattle.histories.proofs.Lifted.{all, all-ops, all-unbroken, reset-serial, recovered, overrun, afresh, stepped}
 use Rattle.histories.proofs.Period.{Timed, no-sample}
@@ -133,7 +136,7 @@ enabled b c s h =
       count = h .count;
     })
 
-module _ (b c : ℕ) (l : suc b < 8192) (given : List Op) where
+module _ (b c : ℕ) (l : suc b < 8192) (given : List Op) (room : (resyncSamples + samplesIn given) * (2 * suc b) ≤ clockLimit) where
   abbrev rated-module : Module
   rated-module = after (rate (suc b)) resetModule
 
@@ -163,6 +166,10 @@ module _ (b c : ℕ) (l : suc b < 8192) (given : List Op) where
   timed : Timed (2 * suc b) 0 (enabled-module .sci)
   timed = record { on = is-enabled .on; rate = omega (arith, is-enabled .rate, l); count = is-enabled .count }
 
+  -- Nothing is counted yet.
+  fresh : enabled-module .clock ≡ 0
+  fresh = access-count (Write true 2 0x0A (written c)) rated-module ∙ access-count (Write true 2 0x08 (suc b)) resetModule ∙ reset-none
+
   abbrev ones : List Op
   ones = replicate resyncSamples (sample true)
 
@@ -170,10 +177,10 @@ module _ (b c : ℕ) (l : suc b < 8192) (given : List Op) where
   waited = eventsFor (suc b) ones
 
   waits : Gives (suc b) ones waited enabled-module
-  waits = gives b ones enabled-module timed
+  waits = gives b ones enabled-module (omega (arith, fresh, room, add-mul resyncSamples (samplesIn given) (2 * suc b))) timed
 
   goes-on : Gives (suc b) given (eventsFor (suc b) given) (run waited enabled-module)
-  goes-on = gives b given (run waited enabled-module) (waits .timed)
+  goes-on = gives b given (run waited enabled-module) (omega (arith, fresh, waits .count, room, add-mul resyncSamples (samplesIn given) (2 * suc b))) (waits .timed)
 
   compared : Compared (rate (suc b) ∷ []) (enable (written c)) waited
   unfolding run
@@ -203,14 +210,14 @@ module _ (b c : ℕ) (l : suc b < 8192) (given : List Op) where
       }
 
 by-rate : (b : ℕ) (m : Module) (quiet : List Event) (given : List Op) → SCBR (m .sci .sccr0) ≡ b → Unbroken quiet m →
-    resyncSamples ≤ samplesIn (ops quiet m) → Comparison m given
-by-rate zero m quiet given e u h =
+    resyncSamples ≤ samplesIn (ops quiet m) → (resyncSamples + samplesIn given) * (2 * b) ≤ clockLimit → Comparison m given
+by-rate zero m quiet given e u h room =
     absurd (omega (arith, h, ap samplesIn (all-ops quiet m) ∙ no-sample (all quiet m) (m .sci) e (all-unbroken quiet m u)))
-by-rate (suc b) m quiet given e u h = comparison b (m .sci .sccr1) (omega (arith, e)) given m e refl
+by-rate (suc b) m quiet given e u h room = comparison b (m .sci .sccr1) (omega (arith, e)) given room m e refl
 
 comparable : Comparable
-comparable before quiet supervisor width offset later h =
-    by-rate (SCBR (run before resetModule .sci .sccr0)) (run before resetModule) quiet _ refl (h .unbroken) (h .enough)
+comparable before quiet supervisor width offset later h room =
+    by-rate (SCBR (run before resetModule .sci .sccr0)) (run before resetModule) quiet _ refl (h .unbroken) (h .enough) room
 
 pub demand3 : Demand3
 demand3 =
@@ -220,5 +227,6 @@ demand3 =
       stepped = stepped;
       readsAlike = reads-alike;
       afresh = afresh;
+      counted = all-counted;
       overrun = overrun;
     }

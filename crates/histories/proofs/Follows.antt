@@ -15,16 +15,17 @@ use Rattle.qsm.specs.State.{resetModule, withSci, withQspi}
 use Rattle.qsm.specs.Lanes.{upperLane, lowerLane, lined, touches}
 use Rattle.qsm.specs.Serial.{serialRead}
 use Rattle.qsm.specs.Decision.{permits, admitted, shaped, fits, decideRead, decideStored, decideWrite, storedBy}
-use Rattle.qsm.specs.Event.{done, held, afterRead, refused, resets, holds, does}
+use Rattle.qsm.specs.Event.{done, held, afterRead, refused, resets, does}
 use Rattle.qsm.specs.Event as events
 use Rattle.qsm.proofs.Clocks.{apart}
+use Rattle.qsm.proofs.Limit.{hold-if}
 use Rattle.qsm.specs.declared.state.Module.{Module}
 use Rattle.qsm.specs.declared.decision.Decision.{Decision}
 use Rattle.qsm.specs.declared.event.Access.the-variants.{Read, Write}
 use Rattle.qsm.specs.declared.event.Event.{Event}
 use Rattle.qsm.specs.declared.event.Event.the-variants.{Reset, Hold}
 use Rattle.qsm.specs.declared.event.Event.the-variants as event
-use Rattle.histories.specs.History.{after, receiverRead}
+use Rattle.histories.specs.History.{after, receiverRead, playedClocks}
 use Rattle.histories.proofs.Words.{storeSteps, stored-follows}
 use Rattle.histories.proofs.Tested.{tested-unguarded}
 
@@ -38,7 +39,7 @@ readStep width offset = reads (touches 0x0C 2 width offset) (touches 0x0F 1 widt
 
 abbrev pub steps : Event → Module → List Step
 steps Reset m = reset ∷ []
-steps (Hold pins rxd n) m = clocks n rxd
+steps (Hold pins rxd n) m = clocks (playedClocks m n) rxd
 steps (event.Access (Read supervisor width offset)) m =
     cond (receiverRead m supervisor width offset) (readStep width offset ∷ []) []
 steps (event.Access (Write supervisor width offset value)) m =
@@ -109,9 +110,11 @@ permitted-follows m supervisor width offset value e =
     (storedBy m width offset value .unmodelled) (storedBy m width offset value .guarded) e)
 
 hold-follows : (pins : ℕ) (rxd : Bool) (n : ℕ) (m : Module) →
-    after (Hold pins rxd n) m .sci ≡ sci.run (clocks n rxd) (m .sci)
-unfolding does holds events.clocks
-hold-follows pins rxd n m = ap (λ (k : Module). k .sci) (apart n rxd (held m pins)) ∙ sym (run-clocks n rxd (m .sci))
+    after (Hold pins rxd n) m .sci ≡ sci.run (clocks (playedClocks m n) rxd) (m .sci)
+unfolding events.clocks sci.run
+hold-follows pins rxd n m =
+    hold-if (λ d. d .state .sci ≡ sci.run (clocks (playedClocks m n) rxd) (m .sci)) m pins rxd n (λ h. rw h)
+    (λ h. rw h (ap (λ (k : Module). k .sci) (apart n rxd (held m pins)) ∙ sym (run-clocks n rxd (m .sci))))
 
 reset-follows : (m : Module) → after Reset m .sci ≡ sci.run (reset ∷ []) (m .sci)
 unfolding does resets resetModule sci.run step

@@ -1,6 +1,6 @@
 -- Two modules clock by clock are their two serial halves clock by clock.
 use mathlib.Core.Path.{_≡_, refl, ap, sym, subst, _∙_}
-use mathlib.Core.Bool.{Bool, true}
+use mathlib.Core.Bool.{Bool, true, false, cond}
 use mathlib.Core.List.{List, [], _∷_, _++_}
 use Prim.Native.Nat.{ℕ, zero, suc, _+_, _<_, _≤_}
 use native.Mathlib.Omega.{arith}
@@ -9,20 +9,23 @@ use Rattle.sci.specs.History as half
 use Rattle.sci.specs.Wire.{Wired, Access, steps, step}
 use Rattle.sci.specs.Wire as wire
 use Rattle.sci.specs.declared.serial.Sci.{Sci}
+use Rattle.sci.proofs.History.{clocks}
+use Rattle.qsm.specs.Event.{passes}
 use Rattle.qsm.specs.declared.state.Module.{Module}
 use Rattle.qsm.specs.declared.event.Access as bus
 use Rattle.qsm.specs.declared.event.Event.the-variants.{Hold}
 use Rattle.qsm.specs.declared.event.Event.the-variants as event
 use Rattle.histories.specs.History.{after}
-use Rattle.histories.specs.Demand2.{Two, halves, line, Tick, Moment, clock, atSender, atReceiver, next, play, clocksIn, SameSettings, StaysOn, Unchanged, Rests}
+use Rattle.histories.specs.Demand2.{Two, halves, line, Tick, Moment, clock, atSender, atReceiver, next, play, clocksIn, Counts, SameSettings, StaysOn, Unchanged, Rests}
 use Rattle.histories.proofs.Follows as follow
 use Rattle.histories.proofs.Pin.{line-driven, line-rests}
 use Rattle.histories.proofs.Given.{accessedAll, makes, access-half}
 use Rattle.histories.proofs.OnWire.{sender-kept, receiver-kept, joined, atS, atR, sender-steps, receiver-steps, sender-unchanged, receiver-unchanged, sender-rests, receiver-rests, sender-clocks, receiver-clocks, rests-sender, rests-receiver}
 
-hold-half : (pins : ℕ) (x : Bool) (m : Module) → after (Hold pins x 1) m .sci ≡ clocked (m .sci) x
+hold-half : (pins : ℕ) (x : Bool) (m : Module) → passes m 1 ≡ false → after (Hold pins x 1) m .sci ≡ clocked (m .sci) x
 unfolding half.run half.step
-hold-half pins x m = follow.follows (Hold pins x 1) m
+hold-half pins x m h =
+    follow.follows (Hold pins x 1) m ∙ ap (λ (b : Bool). half.run (clocks (cond b 0 1) x) (m .sci)) h
 
 -- The line is TXD before each clock.
 abbrev pub Plain : List Moment → Two → Type 0
@@ -37,14 +40,14 @@ project (clock t ∷ es) q = wire.clock (t .rxd) ∷ project es (next (clock t) 
 project (atSender a ∷ es) q = atS (makes a (q .sender)) (project es (next (atSender a) q))
 project (atReceiver a ∷ es) q = atR (makes a (q .receiver)) (project es (next (atReceiver a) q))
 
-pub clock-halves : (t : Tick) (q : Two) → line (q .sender) (t .undriven) ≡ txd (q .sender .sci) →
+pub clock-halves : (t : Tick) (q : Two) → Counts q → line (q .sender) (t .undriven) ≡ txd (q .sender .sci) →
     step (wire.clock (t .rxd)) (halves q) ≡ halves (next (clock t) q)
 unfolding step next
-clock-halves t q e =
-    ap (λ (s : Sci). joined s (clocked (q .receiver .sci) (txd (q .sender .sci)))) (sym (hold-half (t .pins) (t .rxd) (q .sender)))
+clock-halves t q counts e =
+    ap (λ (s : Sci). joined s (clocked (q .receiver .sci) (txd (q .sender .sci)))) (sym (hold-half (t .pins) (t .rxd) (q .sender) (counts .0)))
     ∙ ap (λ (x : Bool). joined (after (Hold (t .pins) (t .rxd) 1) (q .sender) .sci) (clocked (q .receiver .sci) x)) (sym e)
     ∙ ap (joined (after (Hold (t .pins) (t .rxd) 1) (q .sender) .sci))
-    (sym (hold-half (t .pins′) (line (q .sender) (t .undriven)) (q .receiver)))
+    (sym (hold-half (t .pins′) (line (q .sender) (t .undriven)) (q .receiver) (counts .1)))
 
 sender-halves : (a : bus.Access) (q : Two) → SameSettings (q .sender) (after (event.Access a) (q .sender)) →
     joined (accessedAll (makes a (q .sender)) (q .sender .sci)) (q .receiver .sci) ≡ halves (next (atSender a) q)
@@ -61,7 +64,7 @@ pub project-steps : (es : List Moment) (q : Two) → Unchanged es q → Plain es
 unfolding steps play
 project-steps [] q u p = refl
 project-steps (clock t ∷ es) q u p =
-    ap (steps (project es (next (clock t) q))) (clock-halves t q (p .0)) ∙ project-steps es (next (clock t) q) u (p .1)
+    ap (steps (project es (next (clock t) q))) (clock-halves t q (u .0) (p .0)) ∙ project-steps es (next (clock t) q) (u .1) (p .1)
 project-steps (atSender a ∷ es) q u p =
     sender-steps (makes a (q .sender)) (project es (next (atSender a) q)) (q .sender .sci) (q .receiver .sci)
     ∙ ap (steps (project es (next (atSender a) q))) (sender-halves a q (u .0)) ∙ project-steps es (next (atSender a) q) (u .1) p
@@ -74,8 +77,8 @@ pub project-unchanged : (es : List Moment) (q : Two) → Unchanged es q → Plai
 unfolding wire.Unchanged
 project-unchanged [] q u p = tt
 project-unchanged (clock t ∷ es) q u p =
-    subst (wire.Unchanged (project es (next (clock t) q))) (sym (clock-halves t q (p .0)))
-    (project-unchanged es (next (clock t) q) u (p .1))
+    subst (wire.Unchanged (project es (next (clock t) q))) (sym (clock-halves t q (u .0) (p .0)))
+    (project-unchanged es (next (clock t) q) (u .1) (p .1))
 project-unchanged (atSender a ∷ es) q u p =
     sender-unchanged (makes a (q .sender)) (project es (next (atSender a) q)) (q .sender .sci) (q .receiver .sci)
     (sender-kept a (q .sender) (u .0))
@@ -93,8 +96,8 @@ unfolding wire.Rests
 project-rests [] q u p r = tt
 project-rests (clock t ∷ es) q u p r = (
   sym (p .0) ∙ r .0,
-  subst (wire.Rests (project es (next (clock t) q))) (sym (clock-halves t q (p .0)))
-      (project-rests es (next (clock t) q) u (p .1) (r .1)),
+  subst (wire.Rests (project es (next (clock t) q))) (sym (clock-halves t q (u .0) (p .0)))
+      (project-rests es (next (clock t) q) (u .1) (p .1) (r .1)),
 )
 project-rests (atSender a ∷ es) q u p r =
     sender-rests (makes a (q .sender)) (project es (next (atSender a) q)) (q .sender .sci) (q .receiver .sci)
@@ -152,8 +155,8 @@ drives-plain (clock t ∷ es) q (suc n) d l u =
     let e : line (q .sender) (t .undriven) ≡ txd (q .sender .sci) =
     line-driven (q .sender) (t .undriven) (driven-now n (halves q) d) in (
       e,
-      drives-plain es (next (clock t) q) n (clock-drives n (t .rxd) (halves q) (halves (next (clock t) q)) (clock-halves t q e) d)
-          (omega (arith, l)) u,
+      drives-plain es (next (clock t) q) n (clock-drives n (t .rxd) (halves q) (halves (next (clock t) q)) (clock-halves t q (u .0) e) d)
+          (omega (arith, l)) (u .1),
     )
 drives-plain (atSender a ∷ es) q n d l u =
     drives-plain es (next (atSender a) q) n
@@ -171,8 +174,8 @@ unfolding wire.Rests
 rests-project [] q u p r = tt
 rests-project (clock t ∷ es) q u p r = (
   p .0 ∙ r .0,
-  rests-project es (next (clock t) q) u (p .1)
-      (subst (wire.Rests (project es (next (clock t) q))) (clock-halves t q (p .0)) (r .1)),
+  rests-project es (next (clock t) q) (u .1) (p .1)
+      (subst (wire.Rests (project es (next (clock t) q))) (clock-halves t q (u .0) (p .0)) (r .1)),
 )
 rests-project (atSender a ∷ es) q u p r =
     rests-project es (next (atSender a) q) (u .1) p
@@ -187,7 +190,7 @@ rests-project (atReceiver a ∷ es) q u p r =
 pub unchanged-append : (es ds : List Moment) (q : Two) → Unchanged es q → Unchanged ds (play es q) → Unchanged (es ++ ds) q
 unfolding play
 unchanged-append [] ds q u v = v
-unchanged-append (clock t ∷ es) ds q u v = unchanged-append es ds (next (clock t) q) u v
+unchanged-append (clock t ∷ es) ds q u v = (u .0, unchanged-append es ds (next (clock t) q) (u .1) v)
 unchanged-append (atSender a ∷ es) ds q u v = (u .0, unchanged-append es ds (next (atSender a) q) (u .1) v)
 unchanged-append (atReceiver a ∷ es) ds q u v = (u .0, unchanged-append es ds (next (atReceiver a) q) (u .1) v)
 

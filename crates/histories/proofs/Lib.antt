@@ -2,6 +2,8 @@ pub mod Words
 pub mod Rise
 pub mod Tested
 pub mod Follows
+pub mod Room
+pub mod LowCounts
 pub mod Told
 pub mod Unbroken
 pub mod Rises

@@ -18,7 +18,7 @@ use Rattle.qsm.specs.declared.event.Access.the-variants.{Read, Write}
 use Rattle.qsm.specs.declared.event.Event.{Event}
 use Rattle.qsm.specs.declared.event.Event.the-variants.{Reset, Hold}
 use Rattle.qsm.specs.declared.event.Event.the-variants as event
-use Rattle.histories.specs.History.{after, receiverRead}
+use Rattle.histories.specs.History.{after, receiverRead, playedClocks}
 use Rattle.histories.proofs.Rise.{on, Rise, store-off, store-rise}
 use Rattle.histories.proofs.Follows.{writeSteps, steps, follows}
 use Rattle.histories.proofs.Unbroken.{read-unbroken}
@@ -45,7 +45,7 @@ reset-off s = (refl, tt)
 
 pub event-off : (e : Event) (m : Module) → on (m .sci) ≡ false → on (after e m .sci) ≡ false → Off (steps e m) (m .sci)
 event-off Reset m h g = reset-off (m .sci)
-event-off (Hold pins rxd n) m h g = clocks-off n rxd (m .sci) h
+event-off (Hold pins rxd n) m h g = clocks-off (playedClocks m n) rxd (m .sci) h
 event-off (event.Access (Read supervisor width offset)) m h g =
     read-off (receiverRead m supervisor width offset) (touches 0x0C 2 width offset) (touches 0x0F 1 width offset) (m .sci) h
 event-off (event.Access (Write supervisor width offset value)) m h g =
@@ -69,7 +69,7 @@ write-rise false es s t e h g f = absurd (true≢false (sym g ∙ ap on e ∙ h)
 pub event-rise : (e : Event) (m : Module) → on (m .sci) ≡ false → on (after e m .sci) ≡ true → Rise (steps e m) (m .sci)
 event-rise Reset m h g = reset-rise (m .sci) (after Reset m .sci) (follows Reset m) g
 event-rise (Hold pins rxd n) m h g =
-    kept-rise (clocks n rxd) (m .sci) _ (clocks-unbroken n rxd (m .sci)) (follows (Hold pins rxd n) m) h g
+    kept-rise (clocks (playedClocks m n) rxd) (m .sci) _ (clocks-unbroken (playedClocks m n) rxd (m .sci)) (follows (Hold pins rxd n) m) h g
 event-rise (event.Access (Read supervisor width offset)) m h g =
     kept-rise _ (m .sci) _
     (read-unbroken (receiverRead m supervisor width offset) (touches 0x0C 2 width offset) (touches 0x0F 1 width offset) (m .sci))

@@ -3,7 +3,8 @@
 use mathlib.Core.Bool.{true, false}
 use mathlib.Core.List.{List, [], _∷_}
 use mathlib.Core.Path.{_≡_, refl, ap, _∙_}
-use Prim.Native.Nat.{ℕ, zero, suc}
+use Prim.Native.Nat.{ℕ, zero, suc, _+_, _≤_}
+use native.Mathlib.Omega.{arith}
 use lib.ListN.{replicate}
 use Rattle.steps.specs.Iterate.{iterate}
 use Rattle.sci.specs.Flags.{flag}
@@ -20,7 +21,7 @@ use Rattle.qsm.specs.Word.{put, unmodelled, guarded}
 use Rattle.qsm.specs.Serial.{serialRead, putSerial, serialUnmodelled, serialGuarded}
 use Rattle.qsm.specs.Access.{store, stored}
 use Rattle.qsm.specs.Decision.{admitted, decideRead, storedBy, decideStored, decideWrite}
-use Rattle.qsm.specs.Event.{afterRead, does}
+use Rattle.qsm.specs.Event.{clockLimit, afterRead, does}
 use Rattle.qsm.specs.Event as events
 use Rattle.qsm.specs.declared.event.Access.{Access}
 use Rattle.qsm.specs.declared.event.Access.the-variants.{Read, Write}
@@ -31,6 +32,8 @@ use Rattle.histories.specs.History.{run}
 use Rattle.histories.specs.Demand2.{Two, halves, Tick, Moment, clock, atSender, atReceiver, next, Unchanged, Frame, Word, since}
 use Rattle.histories.proofs.Lifted.{all, from-reset}
 use Rattle.histories.proofs.OnWire.{joined}
+use Rattle.histories.proofs.Room.{since-plain}
+use Rattle.histories.proofs.LowCounts.{Low, low-counts, low-next}
 
 -- The sender: SCBR 1; status seen, the word 55 (hexadecimal) written, TE set; then the preamble up to the clock before the frame.
 abbrev pub past : List Event
@@ -71,9 +74,12 @@ other =
       frame = record { first = tick; later = atSender (Write true 2 0x0A 0) ∷ ticks 307; last = tick };
     }
 
-pub all-clocks : (n : ℕ) (q : Two) → Unchanged (ticks n) q
-all-clocks zero q = tt
-all-clocks (suc n) q = all-clocks n (next (clock tick) q)
+pub all-clocks : (n k : ℕ) (q : Two) → Low k q → k + n ≤ clockLimit → Unchanged (ticks n) q
+all-clocks zero k q low room = tt
+all-clocks (suc n) k q low room = (
+  low-counts k q low (omega arith),
+  all-clocks n (suc k) (next (clock tick) q) (low-next (clock tick) k q low) (omega arith),
+)
 
 -- The two serial halves then.
 abbrev pub sending : Sci
@@ -93,7 +99,7 @@ listening = sci.run (sci.writesSccr0 1 true true ∷ (sci.writesSccr1 4 true tru
 same-past : all past resetModule
     ≡ sci.writesSccr0 1 true true ∷ (sci.reads true false ∷ (sci.writesScdr 0x55 true true ∷ (sci.writesSccr1 8 true true ∷ clocks 321 true)))
 unfolding resetModule does events.writes events.refused decideWrite decideStored decideRead admitted inMap isRestricted decode storedBy stored store iterate put unmodelled guarded putSerial serialUnmodelled serialGuarded wroteSccr0 wroteSccr1 sccr0Guarded sccr1Guarded afterRead events.reads serialRead
-same-past = refl
+same-past = since-plain past (omega arith)
 
 pub at-past : run past resetModule .sci ≡ sending
 unfolding has raise raiseIf fall markSeen fallSeen sent sampled clocked wroteSccr0 wroteSccr1 sccr0Guarded sccr1Guarded sci.step sci.run
@@ -101,7 +107,7 @@ at-past = from-reset past ∙ ap (λ (es : List sci.Step). sci.run es resetSci) 
 
 same-past′ : all past′ resetModule ≡ sci.writesSccr0 1 true true ∷ (sci.writesSccr1 4 true true ∷ clocks 5 true)
 unfolding resetModule does events.writes events.refused decideWrite decideStored decideRead admitted inMap isRestricted decode storedBy stored store iterate put unmodelled guarded putSerial serialUnmodelled serialGuarded wroteSccr0 wroteSccr1 sccr0Guarded sccr1Guarded
-same-past′ = refl
+same-past′ = since-plain past′ (omega arith)
 
 at-past′ : run past′ resetModule .sci ≡ listening
 at-past′ = from-reset past′ ∙ ap (λ (es : List sci.Step). sci.run es resetSci) same-past′

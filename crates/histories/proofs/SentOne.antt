@@ -2,6 +2,7 @@
 use mathlib.Core.Bool.{true, false, and-false}
 use mathlib.Core.List.{List, _∷_}
 use mathlib.Core.Path.{_≡_, refl, ap, sym, subst, _∙_}
+use native.Mathlib.Omega.{arith}
 use Prim.Native.Nat.{ℕ, zero, suc, _+_, _*_}
 use lib.ListN.{replicate}
 use Rattle.steps.specs.Iterate.{iterate}
@@ -28,14 +29,16 @@ use Rattle.qsm.specs.declared.event.Access.{Access}
 use Rattle.qsm.specs.declared.event.Access.the-variants.{Write}
 use Rattle.qsm.specs.declared.event.Event.the-variants as event
 use Rattle.histories.specs.History.{breaks}
-use Rattle.histories.specs.Demand2.{Two, halves, Moment, clock, atSender, atReceiver, next, Unchanged, begun, ended, Begins, Sends}
+use Rattle.histories.specs.Demand2.{Two, halves, Moment, clock, atSender, atReceiver, next, play, Counts, Unchanged, begun, ended, Begins, Sends}
 use Rattle.histories.proofs.Pin.{line-driven}
 use Rattle.histories.proofs.OnWire.{joined, atR}
+use Rattle.histories.proofs.Room.{since-count}
+use Rattle.histories.proofs.LowCounts.{Low, low-counts, low-next, low-play}
 use Rattle.histories.proofs.Uncounted.{uncounted}
 use Rattle.histories.proofs.Joined.{project, clock-halves}
 use Rattle.histories.proofs.Arriving.{begins-driven, at-ended}
 use Rattle.histories.proofs.Requested.{request-stays, request-given}
-use Rattle.histories.proofs.Sent.{two, tick, ticks, status, one, all-clocks, sending, listening, at-past, start}
+use Rattle.histories.proofs.Sent.{past, past′, two, tick, ticks, status, one, all-clocks, sending, listening, at-past, start}
 
 -- The first frame: it begins, and the receiver is ready then.
 pub one-begins : Begins (two .sender)
@@ -49,12 +52,22 @@ one-begins =
 abbrev pub b : Two
 b = begun one two
 
+-- The counts are low.
+two-low : Low 321 two
+two-low = (since-count past, omega (arith, since-count past′))
+
+pub two-counts : Counts two
+two-counts = low-counts 321 two two-low (omega arith)
+
+pub b-low : Low 322 b
+b-low = low-next (clock tick) 321 two two-low
+
 abbrev begunHalves : Wired
 begunHalves = step (wire.clock true) (joined sending listening)
 
 at-b : halves b ≡ begunHalves
 at-b =
-    sym (clock-halves tick two (line-driven (two .sender) true (begins-driven (two .sender) one-begins)))
+    sym (clock-halves tick two two-counts (line-driven (two .sender) true (begins-driven (two .sender) one-begins)))
     ∙ ap (step (wire.clock true)) start
 
 matched : Matched begunHalves
@@ -84,17 +97,35 @@ b-heard : Heard (b .receiver .sci)
 unfolding sci.run sci.step wroteSccr0 wroteSccr1 sccr0Guarded sccr1Guarded step clocked sampled received receiverAfter outcome
 b-heard = subst (λ (w : Wired). Heard (w .receiver)) (sym at-b) (record { control = refl; awake = refl; count = refl })
 
+-- When the next word is written and the receiver's RIE set.
+abbrev asked : Two
+asked = next (atSender status) b
+
+abbrev filled : Two
+filled = next (atSender (Write true 2 0x0E 0x2A)) asked
+
+abbrev loaded : Two
+loaded = next (atReceiver (Write true 2 0x0A 0x24)) filled
+
+loaded-low : Low 322 loaded
+loaded-low =
+    low-next (atReceiver (Write true 2 0x0A 0x24)) 322 filled
+    (low-next (atSender (Write true 2 0x0E 0x2A)) 322 asked (low-next (atSender status) 322 b b-low))
+
 write-uncounted : (m : Module) → breaks (event.Access (Write true 2 0x0E 0x2A)) m ≡ false
 write-uncounted m = and-false (permits (decideWrite m true 2 0x0E 0x2A))
 
-pub one-unchanged : (es : List Moment) → ((q : Two) → Unchanged es q) →
+pub one-unchanged : (es : List Moment) → ((q : Two) → Low 322 q → Unchanged es q) →
     Unchanged (atSender status ∷ (atSender (Write true 2 0x0E 0x2A) ∷ (atReceiver (Write true 2 0x0A 0x24) ∷ es))) b
 unfolding next
 one-unchanged es u = (
   uncounted (b .sender) status refl .same,
   (
     uncounted _ (Write true 2 0x0E 0x2A) (write-uncounted _) .same,
-    (request-stays (b .receiver) (b-heard .control) (b-heard .awake), u _),
+    (
+      request-stays (b .receiver) (b-heard .control) (b-heard .awake),
+      u loaded loaded-low,
+    ),
   ),
 )
 
@@ -102,7 +133,9 @@ pub one-sends : Sends one two
 one-sends =
     record {
       begins = one-begins;
-      unchanged = one-unchanged (ticks 307) (all-clocks 307);
+      counts = two-counts;
+      unchanged = one-unchanged (ticks 307) (λ q low. all-clocks 307 322 q low (omega arith));
+      counts-last = low-counts 629 (play (one .later) b) (low-play (one .later) 322 b b-low) (omega arith);
       last =
           ap (λ (k : ℕ). 308 + k) (b-heard .count)
           ∙ sym (ap (λ (s : Sci). suc (endSample (bitsOf (M (s .sccr1)))) * (2 * SCBR (s .sccr0))) at-past);
@@ -112,9 +145,6 @@ one-sends =
 pub project-ticks : (n : ℕ) (q : Two) → project (ticks n) q ≡ replicate n (wire.clock true)
 project-ticks zero q = refl
 project-ticks (suc n) q = ap (λ (fs : List wire.Step). wire.clock true ∷ fs) (project-ticks n (next (clock tick) q))
-
-abbrev loaded : Two
-loaded = next (atReceiver (Write true 2 0x0A 0x24)) (next (atSender (Write true 2 0x0E 0x2A)) (next (atSender status) b))
 
 abbrev oneLater : List wire.Step
 oneLater =
@@ -149,6 +179,9 @@ passed = refl
 
 abbrev pub e : Two
 e = ended one two
+
+pub e-low : Low 630 e
+e-low = low-next (clock tick) 629 (play (one .later) b) (low-play (one .later) 322 b b-low)
 
 pub at-e : halves e ≡ joined sentOne heardOne
 at-e =

@@ -9,12 +9,12 @@ use Rattle.sci.specs.Serial.{txdDriven, txd}
 use Rattle.sci.specs.Wire.{Wired, steps, step}
 use Rattle.sci.specs.Wire as wire
 use Rattle.sci.proofs.StopBit.{frame-drives, stop-bit-rests}
-use Rattle.histories.specs.Demand2.{Two, halves, line, Tick, Moment, clock, next, play, clocksIn, Unchanged, period, width, Begins, StopBit, StopBitRests}
+use Rattle.histories.specs.Demand2.{Two, halves, line, Tick, Moment, clock, next, play, clocksIn, Counts, Unchanged, period, width, Begins, StopBit, StopBitRests}
 use Rattle.histories.proofs.Pin.{line-driven}
 use Rattle.histories.proofs.Arriving.{begins-driven}
 use Rattle.histories.proofs.Joined.{Plain, project, clock-halves, project-steps, project-clocks, Drives, drives-plain, rests-project, unchanged-append, plain-first, plain-second, clocks-append, play-append}
 
-module _ (q : Two) (t : Tick) (es later : List Moment) (h : Begins (q .sender)) (u : Unchanged es (next (clock t) q))
+module _ (q : Two) (t : Tick) (es later : List Moment) (h : Begins (q .sender)) (counts : Counts q) (u : Unchanged es (next (clock t) q))
     (v : Unchanged later (play es (next (clock t) q))) (low : 16 * suc (width q) * period q ≤ clocksIn es)
     (whole : suc (clocksIn es + clocksIn later) ≡ frameSamples (width q) * period q) where
   abbrev b : Two
@@ -36,7 +36,7 @@ module _ (q : Two) (t : Tick) (es later : List Moment) (h : Begins (q .sender)) 
   n = frameSamples (width q) * period q
 
   at-b : step (wire.clock (t .rxd)) (halves q) ≡ halves b
-  at-b = clock-halves t q first-plain
+  at-b = clock-halves t q counts first-plain
 
   drives : Drives n (halves b)
   drives fs k =
@@ -88,4 +88,4 @@ module _ (q : Two) (t : Tick) (es later : List Moment) (h : Begins (q .sender)) 
       }
 
 pub stop-bit : StopBitRests
-stop-bit q t es later h u v low whole = stopped q t es later h u v low whole
+stop-bit q t es later h counts u v low whole = stopped q t es later h counts u v low whole

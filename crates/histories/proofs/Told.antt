@@ -24,7 +24,7 @@ use Rattle.qsm.specs.declared.event.Access.the-variants.{Read, Write}
 use Rattle.qsm.specs.declared.event.Event.{Event}
 use Rattle.qsm.specs.declared.event.Event.the-variants.{Reset, Hold}
 use Rattle.qsm.specs.declared.event.Event.the-variants as event
-use Rattle.histories.specs.History.{after, receiverRead, clockOps, eventOps, clockSeen, eventSeen, clockMarks, eventMarks}
+use Rattle.histories.specs.History.{after, receiverRead, playedClocks, clockOps, eventOps, clockSeen, eventSeen, clockMarks, eventMarks}
 use Rattle.histories.proofs.Words.{store-ops, store-watched, store-log}
 use Rattle.histories.proofs.Follows.{writeSteps, steps, follows}
 
@@ -50,7 +50,7 @@ write-ops false es s e = refl
 
 pub event-ops : (e : Event) (m : Module) → eventOps e m ≡ sci.ops (steps e m) (m .sci)
 event-ops Reset m = reset-ops (m .sci)
-event-ops (Hold pins rxd n) m = clock-ops n rxd (held m pins)
+event-ops (Hold pins rxd n) m = clock-ops (playedClocks m n) rxd (held m pins)
 event-ops (event.Access (Read supervisor width offset)) m =
     read-ops (receiverRead m supervisor width offset) (touches 0x0C 2 width offset) (touches 0x0F 1 width offset) (m .sci)
 event-ops (event.Access (Write supervisor width offset value)) m =
@@ -106,7 +106,7 @@ write-seen false es s e = refl
 
 pub event-seen : (e : Event) (m : Module) → eventSeen e m ≡ sci.watched (steps e m) (m .sci)
 event-seen Reset m = reset-seen (m .sci)
-event-seen (Hold pins rxd n) m = clock-seen n rxd (held m pins)
+event-seen (Hold pins rxd n) m = clock-seen (playedClocks m n) rxd (held m pins)
 event-seen (event.Access (Read supervisor width offset)) m =
     read-seen (receiverRead m supervisor width offset) (touches 0x0C 2 width offset) (touches 0x0F 1 width offset) (m .sci)
     (after (event.Access (Read supervisor width offset)) m .sci) (follows (event.Access (Read supervisor width offset)) m)
@@ -154,7 +154,7 @@ write-marks false es s e = refl
 
 pub event-marks : (e : Event) (m : Module) → eventMarks e m ≡ overrun.log (steps e m) (m .sci)
 event-marks Reset m = reset-marks (m .sci)
-event-marks (Hold pins rxd n) m = clock-marks n rxd (held m pins)
+event-marks (Hold pins rxd n) m = clock-marks (playedClocks m n) rxd (held m pins)
 event-marks (event.Access (Read supervisor width offset)) m =
     read-marks (receiverRead m supervisor width offset) (touches 0x0C 2 width offset) (touches 0x0F 1 width offset) (m .sci)
     (after (event.Access (Read supervisor width offset)) m .sci) (follows (event.Access (Read supervisor width offset)) m)

@@ -19,7 +19,7 @@ use Rattle.qsm.specs.declared.event.Access.the-variants.{Read, Write}
 use Rattle.qsm.specs.declared.event.Event.{Event}
 use Rattle.qsm.specs.declared.event.Event.the-variants.{Reset, Hold}
 use Rattle.qsm.specs.declared.event.Event.the-variants as event
-use Rattle.histories.specs.History.{receiverRead, breaks}
+use Rattle.histories.specs.History.{receiverRead, playedClocks, breaks}
 use Rattle.histories.proofs.Words.{wordSteps, storeSteps, isSccr0, isSccr1, placed, word-unbroken}
 use Rattle.histories.proofs.Tested.{tested-admitted, gate-shaped, gate-mapped}
 use Rattle.histories.proofs.Follows.{writeSteps, steps, refuted, and-left, and-right, and-true}
@@ -102,7 +102,7 @@ read-unbroken false scsr scdr s = tt
 
 pub event-unbroken : (e : Event) (m : Module) → breaks e m ≡ false → sci.Unbroken (steps e m) (m .sci)
 event-unbroken Reset m h = absurd (true≢false h)
-event-unbroken (Hold pins rxd n) m h = clocks-unbroken n rxd (m .sci)
+event-unbroken (Hold pins rxd n) m h = clocks-unbroken (playedClocks m n) rxd (m .sci)
 event-unbroken (event.Access (Read supervisor width offset)) m h =
     read-unbroken (receiverRead m supervisor width offset) (touches 0x0C 2 width offset) (touches 0x0F 1 width offset) (m .sci)
 event-unbroken (event.Access (Write supervisor width offset value)) m h =

@@ -2,7 +2,8 @@
 use mathlib.Core.Bool.{true, false}
 use mathlib.Core.List.{List, [], _∷_}
 use mathlib.Core.Path.{_≡_, refl, ap, sym, subst, _∙_}
-use Prim.Native.Nat.{_≤_}
+use Prim.Native.Nat.{_^_, _≤_}
+use native.Mathlib.Omega.{arith}
 use Rattle.steps.specs.Iterate.{iterate}
 use Rattle.sci.specs.Control.{RE, settings}
 use Rattle.sci.specs.Line.{Op, Ones, samplesIn, resyncSamples, shown, noFlag}
@@ -24,20 +25,22 @@ use Rattle.qsm.specs.Decision.{permits, admitted, decideRead, storedBy, decideS
 use Rattle.qsm.specs.Event.{does}
 use Rattle.qsm.specs.Event as events
 use Rattle.qsm.specs.declared.state.Module.{Module}
+use Rattle.qsm.specs.declared.event.Access.the-variants.{Read, Write}
 use Rattle.histories.specs.History.{after, run, ops, watched, log}
 use Rattle.histories.specs.Demand3.{Recovers, Compared}
 use Rattle.histories.specs.Witness.{rate, enable, before, quiet, waited, later, losing, started, enabled, recovering, waiting, status, Met}
 use Rattle.histories.proofs.Follows.{steps, follows}
+use Rattle.histories.proofs.Room.{access-count, run-count, all-plain, since-plain, since-count}
 use Rattle.histories.proofs.Shown.{word-shows}
 use Rattle.histories.proofs.Lifted.{all, all-run, all-ops, all-watched, all-log, from-reset, reset-serial}
 
 same-before : all before resetModule ≡ half.before
 unfolding resetModule does events.writes events.refused decideWrite decideStored decideRead admitted inMap isRestricted decode storedBy stored store iterate put unmodelled guarded putSerial serialUnmodelled serialGuarded wroteSccr0 wroteSccr1 sccr0Guarded sccr1Guarded
-same-before = refl
+same-before = since-plain before (omega arith)
 
 same-losing : all losing resetModule ≡ half.losing
 unfolding resetModule does events.writes events.refused decideWrite decideStored decideRead admitted inMap isRestricted decode storedBy stored store iterate put unmodelled guarded putSerial serialUnmodelled serialGuarded wroteSccr0 wroteSccr1 sccr0Guarded sccr1Guarded
-same-losing = refl
+same-losing = since-plain losing (omega arith)
 
 same-enabled : all (rate ∷ (enable ∷ [])) resetModule ≡ half.rate ∷ (half.enable ∷ [])
 unfolding resetModule does events.writes events.refused decideWrite decideStored decideRead admitted inMap isRestricted decode storedBy stored store iterate put unmodelled guarded putSerial serialUnmodelled serialGuarded wroteSccr0 wroteSccr1 sccr0Guarded sccr1Guarded
@@ -47,16 +50,16 @@ same-rate : all (rate ∷ []) resetModule ≡ half.rate ∷ []
 unfolding resetModule does events.writes events.refused decideWrite decideStored decideRead admitted inMap isRestricted decode storedBy stored store iterate put unmodelled guarded putSerial serialUnmodelled serialGuarded wroteSccr0 wroteSccr1 sccr0Guarded sccr1Guarded
 same-rate = refl
 
-same-quiet : (m : Module) → all quiet m ≡ half.quiet
+same-quiet : (m : Module) → m .clock ≤ 2 ^ 63 → all quiet m ≡ half.quiet
 unfolding decideRead admitted inMap decode
-same-quiet m = refl
+same-quiet m h = all-plain quiet m (omega arith)
 
-same-later : (m : Module) → all later m ≡ half.later
+same-later : (m : Module) → m .clock ≤ 2 ^ 63 → all later m ≡ half.later
 unfolding decideRead admitted inMap decode
-same-later m = refl
+same-later m h = all-plain later m (omega arith)
 
-same-waited : (m : Module) → all waited m ≡ half.samples resyncSamples true
-same-waited m = refl
+same-waited : (m : Module) → m .clock ≤ 2 ^ 63 → all waited m ≡ half.samples resyncSamples true
+same-waited m h = all-plain waited m (omega arith)
 
 permitted : (m : Module) → permits (decideRead m true 2 12) ≡ true
 unfolding decideRead admitted inMap decode
@@ -66,13 +69,26 @@ same-status : (m : Module) → steps status m ≡ sci.reads true false ∷ []
 unfolding decideRead admitted inMap decode
 same-status m = refl
 
+-- The counts are far from their end.
+started-count : started .clock ≤ 2 ^ 62
+started-count = omega (arith, since-count before)
+
+recovering-count : recovering .clock ≤ 2 ^ 63
+recovering-count = omega (arith, access-count (Read true 2 0x0C) (run quiet started), run-count quiet started, started-count)
+
+enabled-count : enabled .clock ≤ 2 ^ 62
+enabled-count = omega (arith, access-count (Write true 2 0x0A 4) (run (rate ∷ []) resetModule), since-count (rate ∷ []))
+
+waiting-count : waiting .clock ≤ 2 ^ 63
+waiting-count = omega (arith, run-count waited enabled, enabled-count)
+
 -- The serial halves.
 at-started : started .sci ≡ sci.run half.before resetSci
 at-started = from-reset before ∙ ap (λ (es : List Step). sci.run es resetSci) same-before
 
 at-quiet : run quiet started .sci ≡ sci.run half.quiet (sci.run half.before resetSci)
 at-quiet =
-    all-run quiet started ∙ ap (λ (es : List Step). sci.run es (started .sci)) (same-quiet started)
+    all-run quiet started ∙ ap (λ (es : List Step). sci.run es (started .sci)) (same-quiet started (omega (arith, started-count)))
     ∙ ap (sci.run half.quiet) at-started
 
 at-recovering : recovering .sci ≡ half.recovering
@@ -92,27 +108,27 @@ at-enabled = from-reset (rate ∷ (enable ∷ [])) ∙ ap (λ (es : List Step). 
 
 at-waiting : waiting .sci ≡ half.waiting
 at-waiting =
-    all-run waited enabled ∙ ap (λ (es : List Step). sci.run es (enabled .sci)) (same-waited enabled)
+    all-run waited enabled ∙ ap (λ (es : List Step). sci.run es (enabled .sci)) (same-waited enabled (omega (arith, enabled-count)))
     ∙ ap (sci.run (half.samples resyncSamples true)) at-enabled
 
 -- What reaches their receivers.
 quiet-ops : ops quiet started ≡ sci.ops half.quiet (sci.run half.before resetSci)
 quiet-ops =
-    all-ops quiet started ∙ ap (λ (es : List Step). sci.ops es (started .sci)) (same-quiet started)
+    all-ops quiet started ∙ ap (λ (es : List Step). sci.ops es (started .sci)) (same-quiet started (omega (arith, started-count)))
     ∙ ap (sci.ops half.quiet) at-started
 
 waited-ops : ops waited enabled ≡ sci.ops (half.samples resyncSamples true) (sci.step half.enable (sci.step half.rate resetSci))
 waited-ops =
-    all-ops waited enabled ∙ ap (λ (es : List Step). sci.ops es (enabled .sci)) (same-waited enabled)
+    all-ops waited enabled ∙ ap (λ (es : List Step). sci.ops es (enabled .sci)) (same-waited enabled (omega (arith, enabled-count)))
     ∙ ap (sci.ops (half.samples resyncSamples true)) at-enabled
 
-later-ops : (m : Module) (s : Sci) → m .sci ≡ s → ops later m ≡ sci.ops half.later s
-later-ops m s e =
-    all-ops later m ∙ ap (λ (es : List Step). sci.ops es (m .sci)) (same-later m) ∙ ap (sci.ops half.later) e
+later-ops : (m : Module) (s : Sci) → m .clock ≤ 2 ^ 63 → m .sci ≡ s → ops later m ≡ sci.ops half.later s
+later-ops m s few e =
+    all-ops later m ∙ ap (λ (es : List Step). sci.ops es (m .sci)) (same-later m few) ∙ ap (sci.ops half.later) e
 
-later-watched : (m : Module) (s : Sci) → m .sci ≡ s → watched later m ≡ sci.watched half.later s
-later-watched m s e =
-    all-watched later m ∙ ap (λ (es : List Step). sci.watched es (m .sci)) (same-later m) ∙ ap (sci.watched half.later) e
+later-watched : (m : Module) (s : Sci) → m .clock ≤ 2 ^ 63 → m .sci ≡ s → watched later m ≡ sci.watched half.later s
+later-watched m s few e =
+    all-watched later m ∙ ap (λ (es : List Step). sci.watched es (m .sci)) (same-later m few) ∙ ap (sci.watched half.later) e
 
 losing-log : log losing resetModule ≡ marks.log half.losing resetSci
 losing-log =
@@ -160,8 +176,8 @@ met =
       unbroken = (refl, (refl, (refl, (refl, (refl, (refl, (refl, (refl, tt))))))));
       unbroken′ = (refl, (refl, (refl, (refl, (refl, (refl, (refl, (refl, tt))))))));
       alike =
-          later-ops recovering half.recovering at-recovering ∙ computed.met .alike
-          ∙ sym (later-ops waiting half.waiting at-waiting);
-      delivers = ap wordsOf (later-watched recovering half.recovering at-recovering) ∙ computed.met .delivers;
+          later-ops recovering half.recovering recovering-count at-recovering ∙ computed.met .alike
+          ∙ sym (later-ops waiting half.waiting waiting-count at-waiting);
+      delivers = ap wordsOf (later-watched recovering half.recovering recovering-count at-recovering) ∙ computed.met .delivers;
       loses = losing-log ∙ computed.met .loses;
     }

@@ -15,6 +15,7 @@ use Rattle.sci.specs.Link.{dataBits, Delivered}
 use Rattle.sci.specs.BackToBack.{readsBoth}
 use Rattle.sci.specs.Wire.{Wired, Matched, hearing}
 use Rattle.qsm.specs.State.{resetModule}
+use Rattle.qsm.specs.Event.{passes}
 use Rattle.qsm.specs.Pins.{outputs, mask, levels}
 use Rattle.qsm.specs.declared.state.Module.{Module}
 use Rattle.qsm.specs.declared.event.Access.{Access}
@@ -75,6 +76,10 @@ readsOf (clock t ∷ es) q = readsOf es (next (clock t) q)
 readsOf (atSender a ∷ es) q = readsOf es (next (atSender a) q)
 readsOf (atReceiver a ∷ es) q = eventOps (event.Access a) (q .receiver) ++ readsOf es (next (atReceiver a) q)
 
+-- Neither module's clock is refused 10 (02, L9).
+abbrev pub Counts : Two → Type 0
+Counts q = (passes (q .sender) 1 ≡ false) × (passes (q .receiver) 1 ≡ false)
+
 -- Neither is reconfigured. An access leaves SCBR (all that SCCR0 has), ILT, PT, PE, M and WAKE as they were; enabling a request,
 -- or turning the sender's TE, is no reconfiguring.
 pub record SameSettings (m left : Module) : Type 0 where
@@ -87,9 +92,10 @@ pub record StaysOn (m left : Module) : Type 0 where
   pub on : RE (left .sci .sccr1) ≡ RE (m .sci .sccr1)
   pub asleep : left .sci .receiver .asleep ≡ m .sci .receiver .asleep
 
+-- And no clock is refused.
 abbrev pub Unchanged : List Moment → Two → Type 0
 Unchanged [] q = Unit {0}
-Unchanged (clock t ∷ es) q = Unchanged es (next (clock t) q)
+Unchanged (clock t ∷ es) q = Counts q × Unchanged es (next (clock t) q)
 Unchanged (atSender a ∷ es) q = SameSettings (q .sender) (after (event.Access a) (q .sender)) × Unchanged es (next (atSender a) q)
 Unchanged (atReceiver a ∷ es) q = StaysOn (q .receiver) (after (event.Access a) (q .receiver)) × Unchanged es (next (atReceiver a) q)
 
@@ -131,7 +137,9 @@ width q = bitsOf (M (q .sender .sci .sccr1))
 -- From the receiver's count when the frame has begun, its last sample is so many clocks away.
 pub record Sends (f : Frame) (q : Two) : Type 0 where
   pub begins : Begins (q .sender)
+  pub counts : Counts q
   pub unchanged : Unchanged (f .later) (begun f q)
+  pub counts-last : Counts (play (f .later) (begun f q))
   pub last : suc (clocksIn (f .later)) + begun f q .receiver .sci .prescaler ≡ suc (endSample (width q)) * period q
 
 -- The data bits sent are in SCDR, with RDRF and no error flag.
@@ -190,7 +198,7 @@ pub record StopBit (es : List Moment) (q : Two) : Type 0 where
 
 abbrev pub StopBitRests : Type 0
 StopBitRests =
-    (q : Two) (t : Tick) (es later : List Moment) → Begins (q .sender) → Unchanged es (next (clock t) q) →
+    (q : Two) (t : Tick) (es later : List Moment) → Begins (q .sender) → Counts q → Unchanged es (next (clock t) q) →
     Unchanged later (play es (next (clock t) q)) → 16 * suc (width q) * period q ≤ clocksIn es →
     suc (clocksIn es + clocksIn later) ≡ frameSamples (width q) * period q → StopBit later (play es (next (clock t) q))
 

@@ -3,7 +3,7 @@ use mathlib.Core.Bool.{Bool, true, false, cond, not, _&&_}
 use mathlib.Core.List.{List, [], _∷_, _++_}
 use mathlib.Core.Option.{Option, none}
 use mathlib.Core.Path.{_≡_}
-use Prim.Native.Nat.{ℕ, zero, suc}
+use Prim.Native.Nat.{ℕ, zero, suc, _+_}
 use Rattle.sci.specs.Flags.{RDRF}
 use Rattle.sci.specs.Status.{has}
 use Rattle.sci.specs.Transmitter.{sent}
@@ -12,7 +12,7 @@ use Rattle.sci.specs.History.{sampling}
 use Rattle.sci.specs.Overrun.{Mark, wasReset, sampleMarks, lookMarks, deliveryMarks}
 use Rattle.qsm.specs.Lanes.{touches}
 use Rattle.qsm.specs.Decision.{permits, decideRead, decideWrite}
-use Rattle.qsm.specs.Event.{held, clockModule, does}
+use Rattle.qsm.specs.Event.{passes, held, clockModule, does}
 use Rattle.qsm.specs.declared.state.Module.{Module}
 use Rattle.qsm.specs.declared.event.Access.{Access}
 use Rattle.qsm.specs.declared.event.Access.the-variants.{Read, Write}
@@ -48,6 +48,10 @@ abbrev pub Unbroken : List Event → Module → Type 0
 Unbroken [] m = Unit {0}
 Unbroken (e ∷ es) m = (breaks e m ≡ false) × Unbroken es (after e m)
 
+-- The clocks that a hold plays: none where it is refused 10. A refused event takes no sample.
+abbrev pub playedClocks : Module → ℕ → ℕ
+playedClocks m n = cond (passes m n) 0 n
+
 -- What reaches the receiver, in order: the samples of a hold's clocks, and the permitted reads of bytes 0C to 0F, by what they touch of
 -- these bytes: SCSR (either byte) and SCDR's low byte.
 abbrev pub clockOps : ℕ → Bool → Module → List Op
@@ -59,7 +63,7 @@ readOp width offset = read (touches 0x0C 2 width offset) (touches 0x0F 1 width o
 
 abbrev pub eventOps : Event → Module → List Op
 eventOps Reset m = []
-eventOps (Hold pins rxd n) m = clockOps n rxd (held m pins)
+eventOps (Hold pins rxd n) m = clockOps (playedClocks m n) rxd (held m pins)
 eventOps (event.Access (Read supervisor width offset)) m =
     cond (receiverRead m supervisor width offset) (readOp width offset ∷ []) []
 eventOps (event.Access (Write supervisor width offset value)) m = []
@@ -81,7 +85,7 @@ clockSeen (suc n) rxd m =
 
 abbrev pub eventSeen : Event → Module → List Seen
 eventSeen Reset m = []
-eventSeen (Hold pins rxd n) m = clockSeen n rxd (held m pins)
+eventSeen (Hold pins rxd n) m = clockSeen (playedClocks m n) rxd (held m pins)
 eventSeen (event.Access (Read supervisor width offset)) m =
     let left : Module = after (event.Access (Read supervisor width offset)) m in
     cond (receiverRead m supervisor width offset)
@@ -103,7 +107,7 @@ clockMarks (suc n) rxd m =
 
 abbrev pub eventMarks : Event → Module → List Mark
 eventMarks Reset m = wasReset ∷ []
-eventMarks (Hold pins rxd n) m = clockMarks n rxd (held m pins)
+eventMarks (Hold pins rxd n) m = clockMarks (playedClocks m n) rxd (held m pins)
 eventMarks (event.Access (Read supervisor width offset)) m =
     cond (receiverRead m supervisor width offset)
     (lookMarks (touches 0x0C 2 width offset)
@@ -114,3 +118,10 @@ eventMarks (event.Access (Write supervisor width offset value)) m = []
 unfoldable pub log : List Event → Module → List Mark
 log [] m = []
 log (e ∷ es) m = eventMarks e m ++ log es (after e m)
+
+-- Document 02, L9: the clocks of the holds not refused since the last reset, from a count n on.
+unfoldable pub counted : List Event → Module → ℕ → ℕ
+counted [] m n = n
+counted (Reset ∷ es) m n = counted es (after Reset m) 0
+counted (Hold pins rxd k ∷ es) m n = counted es (after (Hold pins rxd k) m) (n + playedClocks m k)
+counted (event.Access a ∷ es) m n = counted es (after (event.Access a) m) n
