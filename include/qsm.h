@@ -40,8 +40,9 @@ enum qsm_refusal {
     QSM_UNKNOWN_KIND = 5, /* trace: a record of unknown kind; editions: the buffer has one, or one that would have been refused */
     QSM_CUT_RECORD = 6,   /* trace: a record cut by the end; compare: a length that is no multiple of 10; editions: the used length cuts a
                              record or passes the buffer's end */
-    QSM_NO_ROOM = 7,      /* trace: fewer than 10 bytes left of the log; compare: the list is too short; editions: 64 records, or no room */
+    QSM_NO_ROOM = 7,      /* trace: fewer than 18 bytes left of the log; compare: the list is too short; editions: 64 records, or no room */
     QSM_NO_EDITION = 8,   /* editions: one to add that is not above the last, one to withdraw or to get that is not there */
+    QSM_CLOCK_LIMIT = 10, /* a hold, also in a trace: the clocks since reset would pass 2^64 - 1 */
     QSM_NO_PLAN = 11      /* plan: there is none for these set-points in this window */
 };
 
@@ -77,12 +78,13 @@ enum qsm_pin {
 
 /* The answer to a call: what it gives, and the module's pins and request after it. */
 struct qsm_answer {
-    uint8_t refusal; /* QSM_MISSHAPEN to QSM_GUARDED, and the module is as before; else QSM_ANSWERED */
+    uint8_t refusal; /* QSM_MISSHAPEN to QSM_GUARDED, QSM_CLOCK_LIMIT, and the module is as before; else QSM_ANSWERED */
     uint32_t value;  /* what a read gives; else 0 */
     uint8_t levels;  /* levels of the driven pins; 0 for the others */
     uint8_t mask;    /* which pins the module drives */
     uint8_t level;   /* level of the interrupt request, 1 to 7; 0 where there is none */
     uint8_t vector;  /* its vector, odd for the queue half, even for the serial half; 0 where there is none */
+    uint64_t clock;  /* clocks since reset, of refused calls too */
 };
 
 /* The module's state, part by part. A host may look inside and need not. */
@@ -185,13 +187,14 @@ struct qsm {
     uint16_t qsmcr;
     uint8_t qilr, qivr, portqs, pqspar, ddrqs;
     uint8_t inputs; /* pin levels of the last hold */
+    uint64_t clock; /* clocks since reset */
 };
 
 struct qsm_played {
     struct qsm state; /* the module after the records answered */
     size_t read;      /* bytes of those records */
     size_t written;   /* bytes of their answers */
-    uint8_t stop;     /* QSM_UNKNOWN_KIND to QSM_NO_ROOM; QSM_ANSWERED at the end of the trace */
+    uint8_t stop;     /* QSM_UNKNOWN_KIND to QSM_NO_ROOM, QSM_CLOCK_LIMIT; QSM_ANSWERED at the end of the trace */
 };
 
 /* Fields of an answer in a log, as qsm_compare adds them up. */
@@ -258,6 +261,14 @@ struct qsm_plan_put {
     uint8_t width; /* 0: none */
 };
 
+/*
+ * The version of `struct qsm` that the archive has, which is QSM_VERSION of its header. A struct that was saved belongs to one version: keep
+ * the number with it, and don't hand it to another's calls. 2 came with the noise figure and moving points, 3 with the clocks
+ * since reset.
+ */
+#define QSM_VERSION 3
+uint32_t qsm_version(void);
+
 /* A module fresh from reset. */
 struct qsm qsm_new(void);
 
@@ -266,7 +277,7 @@ struct qsm_answer qsm_reset(struct qsm *m);
 
 /*
  * Time passes: RXD has its level and the input pins have theirs for 0 to 4,294,967,295 system clocks. `pins` counts only for pins that are
- * inputs, and stays, for reads of PORTQS, until the next hold or reset.
+ * inputs, and stays, for reads of PORTQS, until the next hold or reset. QSM_CLOCK_LIMIT, where the clocks since reset would pass 2^64 - 1.
  */
 struct qsm_answer qsm_hold(struct qsm *m, uint8_t pins, bool rxd, uint32_t clocks);
 
@@ -286,7 +297,7 @@ struct qsm_answer qsm_write(struct qsm *m, bool supervisor, uint8_t width, uint1
 uint8_t qsm_noise(const struct qsm *m);
 
 /*
- * Plays the records of a trace from the state `m` on and writes their answers, 10 bytes each, to the front of the log. It stops before a
+ * Plays the records of a trace from the state `m` on and writes their answers, 18 bytes each, to the front of the log. It stops before a
  * record that it can't answer: what was answered before stands, and the log's bytes past the answers are unchanged.
  */
 struct qsm_played qsm_play(struct qsm m, const uint8_t *trace, size_t length, uint8_t *log, size_t room);
@@ -343,9 +354,9 @@ struct qsm_plan_put qsm_plan_write(struct qsm_queue_plan plan, uint16_t number);
 #define QSM_STRUCT(type, align, size) QSM_IS(_Alignof(struct type) == align && sizeof(struct type) == size)
 #endif
 #define QSM_AT(type, field, place, size) QSM_IS(offsetof(struct type, field) == place && sizeof(((struct type *)0)->field) == size)
-QSM_STRUCT(qsm_answer, 4, 12); QSM_AT(qsm_answer, refusal, 0, 1); QSM_AT(qsm_answer, value, 4, 4);
+QSM_STRUCT(qsm_answer, 8, 24); QSM_AT(qsm_answer, refusal, 0, 1); QSM_AT(qsm_answer, value, 4, 4);
 QSM_AT(qsm_answer, levels, 8, 1); QSM_AT(qsm_answer, mask, 9, 1); QSM_AT(qsm_answer, level, 10, 1);
-QSM_AT(qsm_answer, vector, 11, 1);
+QSM_AT(qsm_answer, vector, 11, 1); QSM_AT(qsm_answer, clock, 16, 8);
 QSM_STRUCT(qsm_flags, 2, 2); QSM_AT(qsm_flags, bits, 0, 2);
 QSM_STRUCT(qsm_status, 2, 4); QSM_AT(qsm_status, flags, 0, 2); QSM_AT(qsm_status, seen, 2, 2);
 QSM_STRUCT(qsm_framer, 2, 10); QSM_AT(qsm_framer, framing, 0, 1); QSM_AT(qsm_framer, starting, 1, 1);
@@ -371,11 +382,11 @@ QSM_AT(qsm_entry, delaying, 4, 1); QSM_AT(qsm_entry, halted, 5, 1); QSM_AT(qsm_e
 QSM_AT(qsm_entry, mosi, 9, 1); QSM_AT(qsm_entry, collected, 10, 2); QSM_AT(qsm_entry, selecting, 12, 1);
 QSM_STRUCT(qsm_qspi, 2, 114); QSM_AT(qsm_qspi, registers, 0, 8); QSM_AT(qsm_qspi, spsr, 8, 7); QSM_AT(qsm_qspi, ram, 16, 80);
 QSM_AT(qsm_qspi, next, 96, 4); QSM_AT(qsm_qspi, entry, 100, 14);
-QSM_STRUCT(qsm, 2, 158); QSM_AT(qsm, sci, 0, 36); QSM_AT(qsm, qspi, 36, 114); QSM_AT(qsm, qsmcr, 150, 2);
+QSM_STRUCT(qsm, 8, 168); QSM_AT(qsm, sci, 0, 36); QSM_AT(qsm, qspi, 36, 114); QSM_AT(qsm, qsmcr, 150, 2);
 QSM_AT(qsm, qilr, 152, 1); QSM_AT(qsm, qivr, 153, 1); QSM_AT(qsm, portqs, 154, 1); QSM_AT(qsm, pqspar, 155, 1);
-QSM_AT(qsm, ddrqs, 156, 1); QSM_AT(qsm, inputs, 157, 1);
-QSM_STRUCT(qsm_played, 8, 184); QSM_AT(qsm_played, state, 0, 158); QSM_AT(qsm_played, read, 160, 8);
-QSM_AT(qsm_played, written, 168, 8); QSM_AT(qsm_played, stop, 176, 1);
+QSM_AT(qsm, ddrqs, 156, 1); QSM_AT(qsm, inputs, 157, 1); QSM_AT(qsm, clock, 160, 8);
+QSM_STRUCT(qsm_played, 8, 192); QSM_AT(qsm_played, state, 0, 168); QSM_AT(qsm_played, read, 168, 8);
+QSM_AT(qsm_played, written, 176, 8); QSM_AT(qsm_played, stop, 184, 1);
 QSM_STRUCT(qsm_compared, 8, 32); QSM_AT(qsm_compared, count, 0, 8); QSM_AT(qsm_compared, refusal, 8, 1);
 QSM_AT(qsm_compared, second, 9, 1); QSM_AT(qsm_compared, start, 16, 8); QSM_AT(qsm_compared, length, 24, 8);
 QSM_STRUCT(qsm_edition, 2, 10); QSM_AT(qsm_edition, number, 0, 2); QSM_AT(qsm_edition, sccr0, 2, 2); QSM_AT(qsm_edition, sccr1, 4, 2);

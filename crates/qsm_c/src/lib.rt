@@ -12,6 +12,7 @@ ghost use Rattle.planner.specs.Quickest.{planned};
 ghost use Rattle.planner.specs.Writes.{writeNo, writesOf};
 ghost use Rattle.settings.specs.Editions.{add, withdraw, get, newest, Changes};
 ghost use Rattle.qsm_c.specs.Play.{Plays};
+ghost use Rattle.qsm_c.specs.Version.{version};
 use comparison::Compared;
 use planner::Plan;
 use planner::Planned;
@@ -32,8 +33,20 @@ pub struct Played {
     pub stop: u8,
 }
 
+// The version of the struct of a module, which a saved one belongs to: one more with each change of its fields. `QSM_VERSION` in the header is
+// the version that a host was compiled with.
+const VERSION: u32 = 3;
+
+// Ruled out: the number of an earlier struct; one that changes between calls.
+#[no_mangle]
+pub extern "C" fn qsm_version() -> u32
+    ensures { λ r. ⌜ r ≡ version ⌝ }
+{
+    VERSION
+}
+
 // A module after a reset.
-// Ruled out: SUPV clear; QIVR 00.
+// Ruled out: SUPV clear; QIVR 00; clocks counted before it.
 #[no_mangle]
 pub extern "C" fn qsm_new() -> Module
     ensures { λ r. ⌜ r ≡ resetModule ⌝ }
@@ -52,7 +65,7 @@ pub extern "C" fn qsm_reset(m: &mut Module) -> Answer
     r.answer
 }
 
-// Ruled out: the levels of the hold before; only the first clock played.
+// Ruled out: the levels of the hold before; only the first clock played; a count that passes 2^64 - 1.
 #[no_mangle]
 pub extern "C" fn qsm_hold(m: &mut Module, pins: u8, rxd: bool, clocks: u32) -> Answer
     ensures { λ r. ⌜ Applied (now (m .entry)) (Hold pins rxd clocks) (now (m .exit)) r ⌝ }

@@ -1,0 +1,6 @@
+-- The version of the module's struct: 1 with document 01, 2 with the noise figure and moving points (02, L1 and L3), 3 with
+-- the count of clocks (L9).
+use Prim.Native.Nat.{ℕ}
+
+abbrev pub version : ℕ
+version = 3
