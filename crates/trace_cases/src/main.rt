@@ -38,7 +38,7 @@ fn named(sign: u8, name: &[u8], m: Module, trace: &[u8], out: &mut [u8]) -> Modu
 // A case: its sign, its trace and room, its name.
 fn case(sign: u8, kept: Module, text: &[u8], name: &[u8]) -> Module {
     let mut bytes = [0u8; 32];
-    let mut room = [FILL; 64];
+    let mut room = [FILL; 80];
     let trace = parse::bytes(text, &mut bytes);
     let out = parse::first(&mut room, parse::room(text));
     let left = named(sign, name, player(sign, kept), trace, out);

@@ -73,11 +73,11 @@ fn next_number(n: usize, d: u8) -> usize {
     if d < 10 { n % 64 * 10 + d as usize } else { n }
 }
 
-// The number that a text has behind its '/', or 12.
+// The number that a text has behind its '/', or 20.
 pub(crate) fn room(text: &[u8]) -> usize {
     let mut at = find(text, 0, b'/');
     if at == text.len() {
-        return 12;
+        return 20;
     }
     let mut n: usize = 0;
     while at < text.len() {

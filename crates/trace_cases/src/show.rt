@@ -33,6 +33,7 @@ fn field(place: usize) {
         7 => text(b", mask "),
         8 => text(b", level "),
         9 => text(b", vector "),
+        10 => text(b", clock "),
         _ => {}
     }
 }
@@ -42,7 +43,7 @@ fn byte(out: &[u8], at: usize) {
         field(at % ANSWER_LENGTH);
         hex(out[at]);
     }
-    if at % ANSWER_LENGTH == 9 {
+    if at % ANSWER_LENGTH == ANSWER_LENGTH - 1 {
         text(b"; ");
     }
 }
