@@ -5,7 +5,7 @@ use std::hint::black_box;
 use std::time::Instant;
 
 const HOLDS: u32 = 400;
-const CLOCKS: u16 = 65_535;
+const CLOCKS: u32 = 65_535;
 
 fn main() {
     report("nothing enabled", &[], |_| 1);

@@ -1,6 +1,6 @@
 //! What an access touches: its form, the map, and the words it is made of.
 
-/// The seven refusals, numbered as in the paper.
+/// The refusals, numbered as in the papers.
 #[derive(Clone, Copy, Debug, PartialEq, Eq, PartialOrd, Ord)]
 #[repr(u8)]
 pub enum Refusal {
@@ -18,6 +18,8 @@ pub enum Refusal {
     Cut = 6,
     /// No room for one more answer.
     Full = 7,
+    /// The clocks since reset would pass 2^64 - 1.
+    Clocks = 10,
 }
 
 /// The part of an access that lies in one aligned word.

@@ -8,7 +8,7 @@ use crate::sci::Sci;
 /// The answer to an event.
 #[derive(Clone, Copy, Debug, PartialEq, Eq)]
 pub struct Answer {
-    /// 1 to 4, or 0.
+    /// 1 to 4 of an access, 10 of a hold, or 0.
     pub refusal: u8,
     /// What a read gives, else 0.
     pub value: u32,
@@ -19,11 +19,13 @@ pub struct Answer {
     /// Interrupt level, 0 for none.
     pub level: u8,
     pub vector: u8,
+    /// Clocks since reset.
+    pub clock: u64,
 }
 
 impl Answer {
     /// The answer as a trace's log holds it.
-    pub fn bytes(&self) -> [u8; 10] {
+    pub fn bytes(&self) -> [u8; 18] {
         let [a, b, c, d] = self.value.to_be_bytes();
         let Self {
             refusal,
@@ -33,7 +35,10 @@ impl Answer {
             vector,
             ..
         } = *self;
-        [0x10, refusal, a, b, c, d, levels, mask, level, vector]
+        let mut bytes = [0; 18];
+        bytes[..10].copy_from_slice(&[0x11, refusal, a, b, c, d, levels, mask, level, vector]);
+        bytes[10..].copy_from_slice(&self.clock.to_be_bytes());
+        bytes
     }
 }
 
@@ -50,6 +55,8 @@ pub struct Module {
     input: u8,
     sci: Sci,
     qspi: Qspi,
+    /// Clocks since reset.
+    clock: u64,
 }
 
 impl Default for Module {
@@ -72,7 +79,13 @@ impl Module {
             input: 0,
             sci: Sci::new(),
             qspi: Qspi::new(),
+            clock: 0,
         }
+    }
+
+    /// The same module with another count of clocks, as if it had run on.
+    pub fn counting_from(self, clock: u64) -> Self {
+        Self { clock, ..self }
     }
 
     pub fn reset(&mut self) -> Answer {
@@ -85,8 +98,12 @@ impl Module {
         self.sci.noise()
     }
 
-    /// Holds pin levels and RXD (nonzero is one) for a number of clocks.
+    /// Holds pin levels and RXD (nonzero is one) for a number of clocks, unless the count of clocks would pass its end.
     pub fn hold(&mut self, pins: u8, rxd: u8, clocks: u32) -> Answer {
+        let Some(clock) = self.clock.checked_add(u64::from(clocks)) else {
+            return self.answer(Refusal::Clocks as u8, 0);
+        };
+        self.clock = clock;
         self.input = pins;
         let inputs = self.queue_inputs();
         for _ in 0..clocks {
@@ -215,6 +232,7 @@ impl Module {
             mask,
             level,
             vector,
+            clock: self.clock,
         }
     }
 

@@ -4,7 +4,7 @@ use crate::access::Refusal;
 use crate::module::{Answer, Module};
 
 /// Bytes of one answer.
-pub const ANSWER_LENGTH: usize = 10;
+pub const ANSWER_LENGTH: usize = 18;
 
 /// How far a trace was played.
 #[derive(Clone, Copy, Debug, PartialEq, Eq)]
@@ -13,7 +13,7 @@ pub struct Played {
     pub read: usize,
     /// Bytes of the output that were written.
     pub written: usize,
-    /// 5, 6 or 7, or 0 at the end of the trace.
+    /// 5, 6, 7 or 10, or 0 at the end of the trace.
     pub stop: u8,
 }
 
@@ -39,12 +39,15 @@ pub fn play(module: &mut Module, trace: &[u8], out: &mut [u8]) -> Played {
     played
 }
 
-/// Plays the first record and gives its length. Refusals 5, 6, 7, in this order.
+/// Plays the first record and gives its length. Refusals 5, 6, 7, 10, in this order.
 fn step(module: &mut Module, trace: &[u8], out: &mut [u8]) -> Result<usize, Refusal> {
     let length = record_length(trace).ok_or(Refusal::Kind)?;
     let record = trace.get(..length).ok_or(Refusal::Cut)?;
     let place = out.get_mut(..ANSWER_LENGTH).ok_or(Refusal::Full)?;
     let answer = event(module, record).ok_or(Refusal::Kind)?;
+    if answer.refusal == Refusal::Clocks as u8 {
+        return Err(Refusal::Clocks);
+    }
     place.copy_from_slice(&answer.bytes());
     Ok(length)
 }

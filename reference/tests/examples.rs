@@ -141,10 +141,10 @@ fn k11_overrun_between_the_reads() {
 
 #[test]
 fn k12_trace() {
-    let mut out = [0xEE; 21];
+    let mut out = [0xEE; 37];
     let played = play(&mut Module::new(), &[1, 3, 0x82, 0, 0x0C], &mut out);
-    assert_eq!((played.read, played.written, played.stop), (5, 20, 0));
-    assert_eq!(out[..10], [0x10, 0, 0, 0, 0, 0, 0, 0, 0, 0]);
-    assert_eq!(out[10..20], [0x10, 0, 0, 0, 1, 0x80, 0, 0, 0, 0]);
-    assert_eq!(out[20], 0xEE);
+    assert_eq!((played.read, played.written, played.stop), (5, 36, 0));
+    assert_eq!(out[..18], [0x11, 0, 0, 0, 0, 0, 0, 0, 0, 0, 0, 0, 0, 0, 0, 0, 0, 0]);
+    assert_eq!(out[18..36], [0x11, 0, 0, 0, 1, 0x80, 0, 0, 0, 0, 0, 0, 0, 0, 0, 0, 0, 0]);
+    assert_eq!(out[36], 0xEE);
 }

@@ -56,7 +56,7 @@ pub fn serial(sccr1: u32) -> Module {
 }
 
 /// Puts `count` equal samples on the line.
-pub fn samples(module: &mut Module, level: u8, count: u16) {
+pub fn samples(module: &mut Module, level: u8, count: u32) {
     module.hold(0, level, 2 * count);
 }
 
