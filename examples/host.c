@@ -18,7 +18,7 @@ static const char program[] = "N10 G00 X0 Y0\n"
 
 struct card {
     struct qsm qsm;
-    uint64_t now;                   /* system clocks */
+    uint64_t now;                   /* system clocks, as the module counts them */
     uint64_t next_poll, poll_every; /* likewise */
     uint64_t sent;                  /* bits, by the sender */
     char line[80];                  /* as much as has come of a line */
@@ -70,8 +70,9 @@ static void keep(struct card *c, bool level, uint64_t until)
 {
     while (c->now < until) {
         uint64_t stop = c->next_poll < until ? c->next_poll : until;
-        value(qsm_hold(&c->qsm, 0xFF, level, (uint32_t)(stop - c->now)));
-        c->now = stop;
+        struct qsm_answer a = qsm_hold(&c->qsm, 0xFF, level, (uint32_t)(stop - c->now));
+        value(a);
+        c->now = a.clock;
         if (c->now == c->next_poll) {
             poll_once(c);
             c->next_poll += c->poll_every;

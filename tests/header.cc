@@ -33,28 +33,33 @@ int main()
     qsm_hold(&parts, 0xFF, true, 66536);
     qsm_hold(&parts, 0xFF, true, 3);
     expect(card.sci.prescaler == 3 && parts.sci.prescaler == 3, "holds of the same total come to the same clock");
-    expect(qsm_reset(&card).mask == 0, "a reset lets go of TXD");
+    expect(card.clock == 66539 && parts.clock == 66539, "and are counted alike");
+    card.clock = UINT64_MAX - 8;
+    struct qsm_answer past = qsm_hold(&card, 0, true, 9);
+    expect(past.refusal == QSM_CLOCK_LIMIT && past.clock == UINT64_MAX - 8 && card.inputs == 0xFF, "a hold past 2^64 - 1 changes nothing");
+    expect(qsm_hold(&card, 0, true, 8).clock == UINT64_MAX, "one up to it is let");
+    expect(qsm_reset(&card).mask == 0 && card.clock == 0, "a reset lets go of TXD, and counts anew");
+    expect(qsm_version() == QSM_VERSION, "the header's struct is the archive's");
 
     const uint8_t trace[] = {0x01, 0x03, 0x82, 0x00, 0x0C, 0x05};
-    const uint8_t answers[] = {0x10, 0, 0, 0, 0, 0, 0, 0, 0, 0, 0x10, 0, 0, 0, 0x01, 0x80, 0, 0, 0, 0, 0xEE};
+    const uint8_t answers[] = {0x11, 0, 0, 0, 0, 0, 0, 0, 0, 0, 0, 0, 0, 0, 0, 0, 0, 0, 0x11, 0, 0, 0, 0x01, 0x80, 0, 0, 0, 0, 0, 0, 0, 0, 0, 0, 0, 0,
+                               0xEE};
     uint8_t log[sizeof answers];
     std::memset(log, 0xEE, sizeof log);
     struct qsm_played played = qsm_play(saved, trace, sizeof trace, log, sizeof log);
-    expect(played.read == 5 && played.written == 20 && played.stop == QSM_CUT_RECORD, "the third record is cut");
+    expect(played.read == 5 && played.written == 36 && played.stop == QSM_CUT_RECORD, "the third record is cut");
     expect(std::memcmp(log, answers, sizeof log) == 0, "the first two are answered, the log's rest is as it was");
 
-    uint8_t other[sizeof log];
-    std::memcpy(other, log, sizeof log);
-    other[0] = 0x11;
-    other[9] = 1;
+    uint8_t older[10] = {0x10}, newer[21] = {0x10, 0, 0, 0, 0, 0, 0, 0, 3, 1, 0x10};
+    newer[20] = 0x10;
     uint64_t list[3] = {9, 9, 9};
-    struct qsm_compared differ = qsm_compare(log, 10, other, 20, list, 3);
-    expect(differ.count == 1 && list[0] == 0 && list[1] == (QSM_FIELD_KIND | QSM_FIELD_VECTOR) && list[2] == 9, "kind and vector differ");
+    struct qsm_compared differ = qsm_compare(older, 10, newer, 20, list, 3);
+    expect(differ.count == 1 && list[0] == 0 && list[1] == (QSM_FIELD_LEVEL | QSM_FIELD_VECTOR) && list[2] == 9, "level and vector differ");
     expect(differ.refusal == QSM_ANSWERED && differ.second && differ.start == 10 && differ.length == 10, "the second log is longer");
     list[0] = 9;
-    differ = qsm_compare(log, 10, other, 20, list, 1);
+    differ = qsm_compare(older, 10, newer, 20, list, 1);
     expect(differ.refusal == QSM_NO_ROOM && differ.count == 0 && list[0] == 9, "one number is too few, and stays");
-    differ = qsm_compare(log, 10, other, 21, list, 0);
+    differ = qsm_compare(older, 10, newer, 21, list, 0);
     expect(differ.refusal == QSM_CUT_RECORD && !differ.second && differ.length == 0, "a cut log is refused first");
 
     uint8_t kept[25] = {0};

@@ -46,6 +46,7 @@ pub fn check(m: &Module) -> Result<(), Difference> {
     let mut copy = *m;
     copy.write(true, 1, 0x15, 0x5A);
     copy.hold(0xC3, true, 0);
+    same(|| "field clock".into(), copy.clock, copy.read(true, 1, 0).clock)?;
     same(|| "field portqs".into(), copy.portqs, 0x5A)?;
     same(|| "field inputs".into(), copy.inputs, 0xC3)
 }

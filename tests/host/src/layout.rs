@@ -11,7 +11,7 @@ macro_rules! layout {
     };
 }
 
-layout!(Answer, 4, 12; refusal 0, value 4, levels 8, mask 9, level 10, vector 11);
+layout!(Answer, 8, 24; refusal 0, value 4, levels 8, mask 9, level 10, vector 11, clock 16);
 layout!(Flags, 2, 2; bits 0);
 layout!(Status, 2, 4; flags 0, seen 2);
 layout!(Framer, 2, 10; framing 0, starting 1, left 2, rt 3, first 4, second 5, noise 6, moved 7, shift 8);
@@ -30,10 +30,11 @@ layout!(Entry, 2, 14;
     selecting 12,
 );
 layout!(Qspi, 2, 114; registers 0, spsr 8, ram 16, next 96, entry 100);
-layout!(Module, 2, 158;
+layout!(Module, 8, 168;
     sci 0, qspi 36, qsmcr 150, qilr 152, qivr 153, portqs 154, pqspar 155, ddrqs 156, inputs 157,
+    clock 160,
 );
-layout!(Played, 8, 184; state 0, read 160, written 168, stop 176);
+layout!(Played, 8, 192; state 0, read 168, written 176, stop 184);
 layout!(Compared, 8, 32; count 0, refusal 8, second 9, start 16, length 24);
 layout!(Edition, 2, 10; number 0, sccr0 2, sccr1 4, spcr0 6, spcr1 8);
 layout!(Changed, 8, 16; used 0, refusal 8);

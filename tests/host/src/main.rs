@@ -14,6 +14,7 @@ mod traces;
 mod wild;
 
 use event::Event;
+use host::qsm;
 use pair::{Difference, Pair};
 use script::Script;
 use shown::Shown;
@@ -31,19 +32,25 @@ struct Totals {
     events: u64,
     clocks: u64,
     /// By number; 0 counts what was not refused.
-    refusals: [u64; 8],
+    refusals: [u64; 11],
     shown: Shown,
 }
 
+/// The refusals that must have come.
+const REFUSALS: [usize; 8] = [1, 2, 3, 4, 5, 6, 7, 10];
+
 /// A round: events one by one, then everything that can be read, the fields, and the same events as a trace.
 fn round(script: &mut Script, pair: &mut Pair, totals: &mut Totals) -> Result<(), Difference> {
+    if script.random.percent(20) {
+        *pair = pair.clone().counting_from(u64::MAX - u64::from(script.random.below(20_000)));
+    }
     let start = pair.clone();
     let mut records = Vec::new();
     script.begin();
     for _ in 0..EVENTS {
         let event = script.next();
         let answer = pair.event(event)?;
-        if let Event::Hold { clocks, .. } = event {
+        if let (Event::Hold { clocks, .. }, 0) = (event, answer.refusal) {
             totals.clocks += u64::from(clocks);
         }
         totals.events += 1;
@@ -90,14 +97,19 @@ fn main() -> ExitCode {
             }
         }
     }
+    if qsm::version() != qsm::VERSION {
+        println!("the library's struct is of version {}, not {}", qsm::version(), qsm::VERSION);
+        return ExitCode::FAILURE;
+    }
     let seeds = if given.is_empty() { &SEEDS[..] } else { &given };
     let mut totals = Totals::default();
     if !seeds.iter().all(|&seed| run(seed, &mut totals)) {
         return ExitCode::FAILURE;
     }
-    println!("refusals 1 to 7: {:?} times", &totals.refusals[1..]);
+    let times = REFUSALS.map(|number| totals.refusals[number]);
+    println!("refusals 1 to 7 and 10: {times:?} times");
     println!("flags read: {}", totals.shown);
-    let all = totals.refusals.iter().all(|&count| count > 0) && totals.shown.all();
+    let all = totals.refusals[0] > 0 && times.iter().all(|&count| count > 0) && totals.shown.all();
     if given.is_empty() && !(all && totals.clocks >= LEAST_CLOCKS) {
         println!("too little: a refusal or a flag never came, or fewer than {LEAST_CLOCKS} clocks");
         return ExitCode::FAILURE;

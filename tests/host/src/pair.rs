@@ -41,6 +41,16 @@ impl Pair {
         }
     }
 
+    /// Both as if they had run on to a count of clocks.
+    pub fn counting_from(self, clock: u64) -> Self {
+        let mut library = self.library;
+        library.clock = clock;
+        Self {
+            library,
+            reference: self.reference.counting_from(clock),
+        }
+    }
+
     /// Both answer an event, alike.
     pub fn event(&mut self, event: Event) -> Result<Answer, Difference> {
         let (library, reference) = match event {

@@ -18,6 +18,7 @@ c_struct!(Answer {
     mask: u8,
     level: u8,
     vector: u8,
+    clock: u64,
 });
 
 c_struct!(Flags { bits: u16 });
@@ -129,6 +130,7 @@ c_struct!(Module {
     pqspar: u8,
     ddrqs: u8,
     inputs: u8,
+    clock: u64,
 });
 
 c_struct!(Played {
@@ -194,7 +196,14 @@ c_struct!(Put {
     width: u8,
 });
 
+/// The bytes of an answer in a log.
+pub const ANSWER: usize = 18;
+
+/// The version that these structs are of, `QSM_VERSION` in the header.
+pub const VERSION: u32 = 3;
+
 extern "C" {
+    fn qsm_version() -> u32;
     fn qsm_new() -> Module;
     fn qsm_reset(m: *mut Module) -> Answer;
     fn qsm_hold(m: *mut Module, pins: u8, rxd: bool, clocks: u32) -> Answer;
@@ -274,6 +283,12 @@ impl Module {
     }
 }
 
+/// The version of the module's struct in the library.
+pub fn version() -> u32 {
+    // SAFETY: it takes nothing.
+    unsafe { qsm_version() }
+}
+
 pub fn compare(first: &[u8], second: &[u8], list: &mut [u64]) -> Compared {
     // SAFETY: slices are what the header asks for.
     unsafe {
@@ -334,6 +349,7 @@ impl From<Answer> for reference::Answer {
             mask: answer.mask,
             level: answer.level,
             vector: answer.vector,
+            clock: answer.clock,
         }
     }
 }

@@ -1,10 +1,7 @@
 //! `figures`: a trace from standard input, played record by record; after each answer, what the module counts.
 
 use crate::Printed;
-use host::qsm::Module;
-
-/// The bytes of an answer.
-const ANSWER: usize = 10;
+use host::qsm::{Module, ANSWER};
 
 /// A line for each record answered: the noise figure of the word in SCDR, then frames taken and frames lost, which are not counted yet.
 pub fn figures() -> Printed {

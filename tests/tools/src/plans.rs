@@ -109,7 +109,7 @@ fn played(replay: &str, trace: Vec<u8>) -> Result<Vec<u8>, String> {
 
 /// What the log of a plan's trace shows, held to the plan.
 fn judge(plan: &Plan, entries: &[Entry], log: &[u8]) -> Result<(), String> {
-    let answers: Vec<&[u8]> = log.chunks(10).collect();
+    let answers: Vec<&[u8]> = log.chunks(qsm::ANSWER).collect();
     let setup = 2 + qsm::writes(*plan).len();
     if answers.len() != setup + plan.clock as usize + 2 || answers.iter().any(|a| a[1] != 0) {
         return Err("an answer is missing or refused".into());
