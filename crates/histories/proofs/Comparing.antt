@@ -3,7 +3,7 @@ use mathlib.Core.Path.{_≡_, refl, ap, sym, subst, _∙_}
 use mathlib.Core.Bool.{Bool, true, false}
 use mathlib.Core.List.{List, [], _∷_}
 use Prim.Native.Nat.{ℕ, zero, suc, _+_, _*_, _/_, _%_, _^_, _≤_, _<_}
-use native.Mathlib.Nat.{add-mul}
+use native.Mathlib.Nat.{add-mul, mul-le-mul-right}
 use native.Mathlib.Omega.{arith}
 use lib.Dec.{eqb}
 use lib.ListN.{replicate}
@@ -26,16 +26,18 @@ use Rattle.qsm.specs.Serial.{serialUnmodelled, serialGuarded}
 use Rattle.qsm.specs.Access.{store, stored}
 use Rattle.qsm.specs.Decision.{permits, admitted, storedBy, decideStored, decideWrite}
 use Rattle.qsm.specs.declared.state.Module.{Module}
-use Rattle.qsm.specs.declared.event.Access.the-variants.{Write}
+use Rattle.qsm.specs.declared.event.Access.the-variants.{Read, Write}
 use Rattle.qsm.specs.declared.event.Event.{Event}
 use Rattle.qsm.specs.declared.event.Event.the-variants as event
-use Rattle.histories.specs.History.{after, run, Unbroken, ops}
-use Rattle.histories.specs.Demand3.{Compared, Comparison, Comparable, Demand3}
+use Rattle.histories.specs.History.{after, run, Unbroken, eventOps, ops}
+use Rattle.histories.specs.Demand3.{Recovers, Compared, Comparison, Comparable, Demand3}
 use Rattle.histories.proofs.Follows.{steps, follows}
 use Rattle.histories.proofs.Room.{access-count, all-counted, reset-none}
 use Rattle.histories.proofs.Touches.{reads-alike}
 use Rattle.histories.proofs.Lifted.{all, all-ops, all-unbroken, reset-serial, recovered, overrun, afresh, stepped}
 use Rattle.histories.proofs.Period.{Timed, no-sample}
+use Rattle.histories.proofs.Clocked.{period, samples-append}
+use Rattle.histories.proofs.Enough.{enough}
 use Rattle.histories.proofs.Giving.{eventsFor, Gives, gives}
 
 -- SCCR0 and SCCR1 written as words while the serial half isn't active.
@@ -215,9 +217,27 @@ by-rate zero m quiet given e u h room =
     absurd (omega (arith, h, ap samplesIn (all-ops quiet m) ∙ no-sample (all quiet m) (m .sci) e (all-unbroken quiet m u)))
 by-rate (suc b) m quiet given e u h room = comparison b (m .sci .sccr1) (omega (arith, e)) given room m e refl
 
+-- The clocks that the receiver compared with takes stay within the module's own count.
+within : (before quiet : List Event) (supervisor : Bool) (width offset : ℕ) (later : List Event) →
+    Recovers (run before resetModule) quiet supervisor width offset →
+    Unbroken later (after (event.Access (Read supervisor width offset)) (run quiet (run before resetModule))) →
+    (resyncSamples + samplesIn (ops later (after (event.Access (Read supervisor width offset)) (run quiet (run before resetModule)))))
+    * period (run before resetModule .sci)
+    ≤ clockLimit
+unfolding ops
+within before quiet supervisor width offset later h u =
+    let m : Module = run before resetModule in
+    let e : Event = event.Access (Read supervisor width offset) in
+    let z : Module = after e (run quiet m) in
+    let all-of-them = enough before quiet (e ∷ later) resyncSamples (h .unbroken) (refl, u) (h .enough) in
+    let fewer : resyncSamples + samplesIn (ops later z) ≤ resyncSamples + samplesIn (ops (e ∷ later) (run quiet m)) =
+    omega (arith, samples-append (eventOps e (run quiet m)) (ops later z)) in
+    omega (arith, mul-le-mul-right (period (m .sci)) fewer, all-of-them)
+
 comparable : Comparable
-comparable before quiet supervisor width offset later h room =
-    by-rate (SCBR (run before resetModule .sci .sccr0)) (run before resetModule) quiet _ refl (h .unbroken) (h .enough) room
+comparable before quiet supervisor width offset later h u =
+    let m : Module = run before resetModule in
+    by-rate (SCBR (m .sci .sccr0)) m quiet _ refl (h .unbroken) (h .enough) (within before quiet supervisor width offset later h u)
 
 pub demand3 : Demand3
 demand3 =

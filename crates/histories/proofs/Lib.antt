@@ -26,5 +26,7 @@ pub mod SentNext
 pub mod Arriving
 pub mod Keeping
 pub mod Period
+pub mod Clocked
+pub mod Enough
 pub mod Giving
 pub mod Comparing

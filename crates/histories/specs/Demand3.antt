@@ -2,7 +2,7 @@
 use mathlib.Core.Bool.{Bool, true, false}
 use mathlib.Core.List.{List, [], _∷_, _++_}
 use mathlib.Core.Path.{_≡_}
-use Prim.Native.Nat.{ℕ, _+_, _-_, _*_, _/_, _%_, _^_, _≤_, _<_}
+use Prim.Native.Nat.{ℕ, _+_, _-_, _/_, _%_, _^_, _≤_, _<_}
 use Rattle.sci.specs.Flags.{flag, receiveFlags, common}
 use Rattle.sci.specs.Control.{SCBR, RE, settings}
 use Rattle.sci.specs.Line.{Op, noFlag, Ones, samplesIn, resyncSamples}
@@ -10,7 +10,7 @@ use Rattle.sci.specs.Overrun.{Overrun}
 use Rattle.qsm.specs.State.{resetModule}
 use Rattle.qsm.specs.Lanes.{touches}
 use Rattle.qsm.specs.Decision.{permits, decideRead}
-use Rattle.qsm.specs.Event.{clockLimit, step}
+use Rattle.qsm.specs.Event.{step}
 use Rattle.qsm.specs.declared.state.Module.{Module}
 use Rattle.qsm.specs.declared.event.Access.the-variants.{Read}
 use Rattle.qsm.specs.declared.event.Event.{Event}
@@ -70,8 +70,8 @@ Recovered =
     settings (m .sci .sccr1) ≡ settings (c .sci .sccr1) →
     Unbroken later z → Unbroken later′ y → ops later z ≡ ops later′ y → watched later z ≡ watched later′ y
 
--- Such a receiver there always is, with SCBR equal too: for every list of events from the read on, one that gets the same samples and
--- permitted reads, at as many clocks to a sample. Those are counted from its own reset (02, L9), so they have to stay within 2^64 - 1.
+-- Such a receiver there always is, with SCBR equal too: for every list of events from the read on, to a reset or counted write, one that gets
+-- the same samples and permitted reads. Its own clocks, counted from its reset (02, L9), stay within 2^64 - 1 since the module's do.
 pub record Comparison (m : Module) (given : List Op) : Type 0 where
   pub early : List Event
   pub enable : Event
@@ -88,8 +88,8 @@ Comparable =
     (before quiet : List Event) (supervisor : Bool) (width offset : ℕ) (later : List Event) →
     Recovers (run before resetModule) quiet supervisor width offset →
     let m : Module = run before resetModule in
-    let given : List Op = ops later (after (event.Access (Read supervisor width offset)) (run quiet m)) in
-    (resyncSamples + samplesIn given) * (2 * SCBR (m .sci .sccr0)) ≤ clockLimit → Comparison m given
+    let z : Module = after (event.Access (Read supervisor width offset)) (run quiet m) in
+    Unbroken later z → Comparison m (ops later z)
 
 -- Reads are alike where they touch the same of bytes 0C to 0F: both reach the receiver or neither does, and in the same way.
 abbrev pub ReadsAlike : Type 0
@@ -107,8 +107,8 @@ Afresh = (past es : List Event) (m : Module) → run (past ++ (Reset ∷ es)) m 
 abbrev pub Stepped : Type 0
 Stepped = (m : Module) (e : Event) → after e m ≡ step m e .state
 
--- The count of clocks (02, L9) is not compared: it is none of what `watched` shows, and no hypothesis is about it but that a module's clocks stay
--- within 2^64 - 1. It is the number of clocks of the holds not refused since the last reset.
+-- The count of clocks (02, L9) is not compared: it is none of what `watched` shows, and no hypothesis is about it. It is the number of clocks of the
+-- holds not refused since the last reset.
 abbrev pub Counted : Type 0
 Counted = (es : List Event) (m : Module) → run es m .clock ≡ counted es m (m .clock)
 
