@@ -9,7 +9,7 @@ use lib.Seq.{length-take-le, take-at, drop-at, take-add}
 use Rattle.trace.specs.Trace.{answerLength}
 use Rattle.trace.specs.Play.{play, Plays}
 use Rattle.trace.specs.declared.Played.{Played}
-use Rattle.trace.proofs.Laws.{ten-bytes-each}
+use Rattle.trace.proofs.Laws.{bytes-each}
 use Rattle.files.specs.Pieces.{counted, left, carried}
 use Rattle.replay.specs.Run.{Advances, Turns}
 use Rattle.replay.specs.declared.run.Run.{Run}
@@ -22,8 +22,8 @@ drop-take k n l h i =
     ap (λ (j : ℕ). drop k (take j l)) sum ∙ ap (drop k) (take-add k (n - k) l)
     ∙ drop-at (take k l) (take (n - k) (drop k l)) k (length-take-le k l (omega arith))
 
-tenth : (n : ℕ) → answerLength * n / answerLength ≡ n
-tenth n = omega arith
+per-answer : (n : ℕ) → answerLength * n / answerLength ≡ n
+per-answer n = omega arith
 
 module _ (r : Run) (buf out₀ out : List ℕ) (total : ℕ) (ended : Bool) (fits : total ≤ length buf) (p : Played)
     (plays : Plays (play (r .state) (take total buf) (length out₀)) out₀ p out) (within : p .read ≤ total) where
@@ -41,12 +41,12 @@ module _ (r : Run) (buf out₀ out : List ℕ) (total : ℕ) (ended : Bool) (fit
       let t = take total buf in
       let o = play (r .state) t (length out₀) in
       let part : length t ≡ total = length-take-le total buf fits in
-      let count : p .written / answerLength ≡ length (o .records) = ap (λ (n : ℕ). n / answerLength) (plays .written) ∙ tenth (length (o .records)) in
+      let count : p .written / answerLength ≡ length (o .records) = ap (λ (n : ℕ). n / answerLength) (plays .written) ∙ per-answer (length (o .records)) in
       let few : left buf (p .read) total ≡ total - p .read = omega arith in
       let size : length (take (total - p .read) (drop (p .read) buf)) ≡ total - p .read = length-take-le (total - p .read) (drop (p .read) buf) (simp length-drop (omega arith)) in
       record {
         run = rw (is-records, is-place, count, plays .state, plays .read, part);
-        log = ap (take (p .written)) (plays .output) ∙ take-at (o .answers) (drop (p .written) out₀) (p .written) (ten-bytes-each (r .state) t (length out₀) ∙ sym (plays .written));
+        log = ap (take (p .written)) (plays .output) ∙ take-at (o .answers) (drop (p .written) out₀) (p .written) (bytes-each (r .state) t (length out₀) ∙ sym (plays .written));
         rest =
             ap (take (total - p .read)) (is-rest ∙ rw few) ∙ take-at (take (total - p .read) (drop (p .read) buf)) (drop (total - p .read) buf) (total - p .read) size
             ∙ sym (drop-take (p .read) total buf within fits) ∙ ap (λ (k : ℕ). drop k t) (plays .read);

@@ -8,7 +8,7 @@ use Rattle.qsm.specs.State.{resetModule}
 use Rattle.trace.specs.Play.{Outcome, stopNumber, play}
 use Rattle.trace.specs.Laws.{unread}
 use Rattle.trace.specs.declared.Stop.{Stop}
-use Rattle.trace.specs.declared.Stop.the-variants.{End, UnknownKind, CutRecord, NoRoom}
+use Rattle.trace.specs.declared.Stop.the-variants.{End, UnknownKind, CutRecord, NoRoom, ClockLimit}
 use Rattle.files.specs.Pieces.{counted}
 use Rattle.replay.specs.declared.run.Run.{Run}
 use Rattle.replay.specs.declared.run.Next.{Next}
@@ -26,6 +26,7 @@ afterStop End ended = cond ended Done More
 afterStop UnknownKind ended = Refused UnknownKind
 afterStop CutRecord ended = cond ended (Refused CutRecord) More
 afterStop NoRoom ended = More
+afterStop ClockLimit ended = Refused ClockLimit
 
 -- A run after the bytes t, of which o was played.
 abbrev pub ran : Run → List ℕ → Bool → Outcome → Run

@@ -48,7 +48,7 @@ fn main() {
         1,
         b"usage: replay [--noise] [TRACE]\n",
         b"\
-Plays a trace on a module fresh from reset and writes its log, ten bytes for each
+Plays a trace on a module fresh from reset and writes its log, 18 bytes for each
 record, to standard output. Without TRACE, or with -, it reads standard input.
 
   replay trace.bin | show        plays a trace and prints its log as text
@@ -57,8 +57,9 @@ record, to standard output. Without TRACE, or with -, it reads standard input.
 An access that is refused (1 to 4) is answered so, and the trace goes on; show --help
 names these. A refusal of a record stops the trace before it. The log up to there
 stands, and standard error says which record it was and where:
-  5  unknown record kind
-  6  record cut by the end of the trace
+  5   unknown record kind
+  6   record cut by the end of the trace
+  10  hold that would pass 2^64 - 1 clocks since reset
 
 With --noise standard error has a line for each word that enters SCDR, with its number
 from 0 and its noise figure, and at the end how many words there were, how many of them

@@ -66,10 +66,10 @@ fn records() -> [u8; 64]
 }
 
 // Room for one answer, and not for two.
-fn answer() -> [u8; 10]
+fn answer() -> [u8; 18]
     ensures { λ r. ⌜ answerLength ≡ length r ⌝ }
 {
-    [0u8; 10]
+    [0u8; 18]
 }
 
 // Ruled out: a tally of no words where one waits in SCDR; more noisy words than words.

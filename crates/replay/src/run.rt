@@ -67,7 +67,7 @@ fn at_end(ended: bool, next: Next) -> Next
     if ended { next } else { Next::More }
 }
 
-// Ruled out: a record cut by the end of a buffer that is refused; a full output that stops the trace.
+// Ruled out: a record cut by the end of a buffer that is refused; a full output that stops the trace; a hold past the limit tried again.
 fn after_stop(stop: Stop, ended: bool) -> Next
     ensures { λ r. ⌜ r ≡ afterStop stop ended ⌝ }
 {
@@ -76,6 +76,7 @@ fn after_stop(stop: Stop, ended: bool) -> Next
         Stop::UnknownKind => Next::Refused(stop),
         Stop::CutRecord => at_end(ended, Next::Refused(stop)),
         Stop::NoRoom => Next::More,
+        Stop::ClockLimit => Next::Refused(stop),
     }
 }
 
@@ -144,11 +145,11 @@ pub fn turn(fd: i32, run: Run, buf: &mut [u8], out: &mut [u8]) -> Turned
     }
 }
 
-// Room for the answers to a buffer full of resets.
-fn answers() -> [u8; 655360]
-    ensures { λ r. ⌜ 655360 ≡ length r ⌝ }
+// Room for 32,768 answers; what it doesn't hold is played on.
+fn answers() -> [u8; 589824]
+    ensures { λ r. ⌜ 589824 ≡ length r ⌝ }
 {
-    [0u8; 655360]
+    [0u8; 589824]
 }
 
 pub fn replay(fd: i32) -> Turned {

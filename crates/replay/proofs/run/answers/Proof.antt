@@ -6,7 +6,7 @@ use Rattle.replay.proofs.run.answers.Statement.{statement}
 use Rattle.replay.proofs.run.answers.Tie as tie
 
 returns : tie.Need-returns
-returns c = sym (length-replicate {A = ℕ} 655360 0)
+returns c = sym (length-replicate {A = ℕ} 589824 0)
 
 pub answers-spec : {M : Type 1} → statement M
 answers-spec = tie.close (tie.spec returns)

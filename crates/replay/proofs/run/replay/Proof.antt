@@ -6,7 +6,7 @@ use Rattle.replay.proofs.run.replay.Statement.{statement}
 use Rattle.replay.proofs.run.replay.Tie as tie
 
 abbrev Inv-loop : tie.InvT-loop
-Inv-loop fd buf₀ out₀ run₀ turns₀ buf out run turns = (length buf ≡ 65536) × (length out ≡ 655360)
+Inv-loop fd buf₀ out₀ run₀ turns₀ buf out run turns = (length buf ≡ 65536) × (length out ≡ 589824)
 
 abbrev μ-loop : tie.MeasureT-loop
 μ-loop fd buf₀ out₀ run₀ turns₀ buf out run turns = turns

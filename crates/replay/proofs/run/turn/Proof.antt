@@ -3,7 +3,7 @@ use mathlib.Core.List.{[]}
 use lib.ListN.{length}
 use denote.Ref.{now}
 use borrow.Author.Needs.{needs}
-use Rattle.trace.specs.Trace.{everyKind}
+use Rattle.trace.specs.Trace.{reader}
 use Rattle.trace.specs.Play.{Outcome}
 use Rattle.trace.proofs.Playing.{play-none}
 use Rattle.replay.proofs.Advancing.{turned}
@@ -13,7 +13,7 @@ use Rattle.replay.proofs.run.turn.Tie as tie
 returns : tie.Need-returns
 returns c =
     let start = c .before .before .before .before .before .before .before .args in
-    record { bytes = []; state = sym (ap (λ (o : Outcome). o .state) (play-none everyKind (start .run .state) [] (length (now (start .out))) refl)) }
+    record { bytes = []; state = sym (ap (λ (o : Outcome). o .state) (play-none reader (start .run .state) [] (length (now (start .out))) refl)) }
 
 returns-2 : tie.Need-returns-2
 returns-2 c = turned _ (c .before .before .before .before .before .before .before .before .advance .ensures .1)
