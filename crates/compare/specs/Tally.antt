@@ -1,16 +1,31 @@
 -- Pieces of two logs, added up.
-use mathlib.Core.Bool.{cond}
-use Prim.Native.Nat.{ℕ, _/_}
+use mathlib.Core.Bool.{_||_}
+use Prim.Native.Nat.{ℕ, _-_, _/_, min}
+use lib.Dec.{eqb}
 use Rattle.files.specs.Pieces.{counted}
+use Rattle.comparison.specs.Kind.{strideOf}
 use Rattle.comparison.specs.declared.Compared.{Compared}
 use Rattle.compare.specs.declared.run.Tally.{Tally}
 
--- A piece more, with n answers in both logs: the differing ones join the count, and the surplus is that of the log it is of.
-abbrev pub tallied : Tally → ℕ → Compared → Tally
-tallied t n r =
+-- A piece more, of so many bytes of the first log and of the second: the differing answers join the count, and a log that ends within an
+-- answer is remembered.
+abbrev pub tallied : Tally → ℕ → ℕ → ℕ → Compared → Tally
+tallied t kind a b r =
     record {
-      answers = counted (t .answers) n;
+      kind = kind;
+      cut = t .cut || eqb (r .refusal) 6;
       differing = counted (t .differing) (r .count);
-      first = cond (r .second) (t .first) (counted (t .first) (r .length / 10));
-      second = cond (r .second) (counted (t .second) (r .length / 10)) (t .second);
+      first = counted (t .first) a;
+      second = counted (t .second) b;
     }
+
+-- The answers of a kind in so many bytes.
+abbrev pub answersIn : ℕ → ℕ → ℕ
+answersIn kind bytes = bytes / strideOf kind
+
+-- The answers that both logs have, and those that a log has more than another, by their bytes.
+abbrev pub answersOf : Tally → ℕ
+answersOf t = answersIn (t .kind) (min (t .first) (t .second))
+
+abbrev pub moreOf : ℕ → ℕ → ℕ → ℕ
+moreOf kind mine other = answersIn kind (mine - other)

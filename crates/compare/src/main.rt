@@ -4,6 +4,7 @@ use files::message::fail;
 use files::message::say;
 use libc::STDIN_FILENO;
 use run::End;
+use run::Other;
 use run::Tally;
 use run::Turned;
 
@@ -11,11 +12,17 @@ mod run;
 mod show;
 
 fn say_verdict(t: Tally) -> bool {
-    if (t.differing == 0) & (t.first == 0) & (t.second == 0) {
-        show::write_line(text::verdict::equal_line(t.answers))
-    } else {
-        show::write_line(text::verdict::differ_line(t.differing, t.answers, t.first, t.second))
+    let answers = run::answers_of(t);
+    if (t.differing == 0) & (t.first == t.second) {
+        return show::write_line(text::verdict::equal_line(answers));
     }
+    let first = run::more_of(t.kind, t.first, t.second);
+    let second = run::more_of(t.kind, t.second, t.first);
+    show::write_line(text::verdict::differ_line(t.differing, answers, first, second))
+}
+
+fn say_other(o: Other) -> bool {
+    show::write_line(text::verdict::other_line(o.letter, o.answer, o.place, o.byte, o.kind))
 }
 
 // Whether the logs were compared to their ends; what went wrong is said.
@@ -25,6 +32,9 @@ fn compared(t: Turned) -> bool {
         End::Done => return true,
         End::Refused(r) => {
             show::write_line(text::verdict::refused_line(r));
+        }
+        End::OtherKind(o) => {
+            say_other(o);
         }
         End::FirstNotRead => fail(b"compare", b"A"),
         End::SecondNotRead => fail(b"compare", b"B"),
@@ -43,12 +53,7 @@ struct Passed {
 fn nothing() -> Passed {
     Passed {
         whole: false,
-        tally: Tally {
-            answers: 0,
-            differing: 0,
-            first: 0,
-            second: 0,
-        },
+        tally: run::nothing(),
     }
 }
 
@@ -89,7 +94,9 @@ a line for each field of it that does, with its value in both logs:
                                  12: refusal: A ok, B refusal 2 (unmapped)
 
 Answers are numbered from 0. A byte that no answer of the model has is shown in hexadecimal, behind the word hex.
-Refused is a log whose length is no multiple of ten (refusal 6): it ends within an answer.
+Logs of kind 10, without a clock, and of kind 11 are compared, each with its own: refused are two logs in which not every answer
+begins with the same one (refusal 5, with the place of the first that does not), and a log whose length is no multiple of
+an answer's, 10 or 18 (refusal 6): it ends within an answer. To compare an archived log of kind 10 with one of kind 11, play its trace anew.
 ",
     );
     if !c.go {

@@ -1,27 +1,43 @@
-// Two logs compared piece by piece, each piece of whole answers but the last, so that the pieces give what the whole gives.
+// Two logs compared piece by piece, each piece of whole answers but the last, so that the pieces give what the whole gives. The kind is that
+// of the first byte, for every piece.
 ghost use mathlib.Core.Path.{_≡_};
 ghost use lib.ListN.{length};
 ghost use Rattle.io.specs.Counts.{Counts};
-ghost use Rattle.compare.specs.Tally.{tallied};
+ghost use Rattle.compare.specs.Tally.{tallied, answersIn, answersOf, moreOf};
 use crate::show::show_list;
 use comparison::Compared;
+use comparison::kinds::first_other;
+use comparison::kinds::kind_of;
+use comparison::kinds::mixed;
 use files::pieces::Filled;
 use files::pieces::counted;
 use files::pieces::fill;
 use files::pieces::least;
 
-// What has been compared so far: the answers that both have, how many of them differ, and how many each has more.
+// What has been compared so far: the logs' kind, or 0 before the first piece; whether a log ended within an answer; how many answers differ;
+// and the bytes of each log.
 pub struct Tally {
-    pub answers: u64,
+    pub kind: u8,
+    pub cut: bool,
     pub differing: u64,
     pub first: u64,
     pub second: u64,
+}
+
+// An answer that does not begin with the logs' kind: which log's, A or B, its number and its place in bytes, what it begins with, and the kind.
+pub struct Other {
+    pub letter: u8,
+    pub answer: u64,
+    pub place: u64,
+    pub byte: u8,
+    pub kind: u8,
 }
 
 pub enum End {
     More,
     Done,
     Refused(u8),
+    OtherKind(Other),
     FirstNotRead,
     SecondNotRead,
     NotWritten,
@@ -32,28 +48,58 @@ pub struct Turned {
     pub end: End,
 }
 
-// A piece with n answers in both logs more.
-// Ruled out: the surplus of the first log counted as the second's; a count of the piece alone.
-fn tallied(t: Tally, n: usize, r: Compared) -> Tally
-    ensures { λ s. ⌜ s ≡ tallied t n r ⌝ }
-{
-    let more = r.length / 10;
-    let answers = counted(t.answers, n);
-    let differing = counted(t.differing, r.count as usize);
-    if r.second {
-        return Tally {
-            answers,
-            differing,
-            first: t.first,
-            second: counted(t.second, more),
-        };
-    }
+pub fn nothing() -> Tally {
     Tally {
-        answers,
-        differing,
-        first: counted(t.first, more),
-        second: t.second,
+        kind: 0,
+        cut: false,
+        differing: 0,
+        first: 0,
+        second: 0,
     }
+}
+
+// A piece more, of a and of b bytes.
+// Ruled out: the bytes of the first log counted as the second's; a count of the piece alone; a cut log forgotten.
+fn tallied(t: Tally, kind: u8, a: usize, b: usize, r: Compared) -> Tally
+    ensures { λ s. ⌜ s ≡ tallied t kind a b r ⌝ }
+{
+    Tally {
+        kind,
+        cut: t.cut | (r.refusal == 6),
+        differing: counted(t.differing, r.count as usize),
+        first: counted(t.first, a),
+        second: counted(t.second, b),
+    }
+}
+
+// How many answers of a kind so many bytes are.
+// Ruled out: ten bytes for both kinds; one more for a cut answer.
+pub fn answers_in(kind: u8, bytes: u64) -> u64
+    ensures { λ r. ⌜ r ≡ answersIn kind bytes ⌝ }
+{
+    if kind == 17 { bytes / 18 } else { bytes / 10 }
+}
+
+// The answers that both logs have.
+// Ruled out: the answers of the longer log; bytes for answers.
+pub fn answers_of(t: Tally) -> u64
+    ensures { λ r. ⌜ r ≡ answersOf t ⌝ }
+{
+    if t.first < t.second {
+        return answers_in(t.kind, t.first);
+    }
+    answers_in(t.kind, t.second)
+}
+
+// How many answers a log has more than the other, by their bytes.
+// Ruled out: bytes for answers; a surplus of the shorter log.
+pub fn more_of(kind: u8, mine: u64, other: u64) -> u64
+    ensures { λ r. ⌜ r ≡ moreOf kind mine other ⌝ }
+{
+    if mine < other {
+        return answers_in(kind, 0);
+    }
+    answers_in(kind, mine - other)
 }
 
 // Reads until the buffer is full or the input ends.
@@ -78,30 +124,82 @@ fn fill_up(fd: i32, buf: &mut [u8]) -> Filled
     }
 }
 
-// The next pieces of both logs.
-fn piece<'a>(shows: bool, t: Tally, a: &'a [u8], b: &'a [u8], list: &mut [u64]) -> Turned {
-    let r = comparison::compare_numbers(a, b, list);
-    if r.refusal != 0 {
+fn byte_at(log: &[u8], at: usize) -> u8 {
+    if at < log.len() { log[at] } else { 0 }
+}
+
+// Where answer k of a piece begins.
+fn place_of(kind: u8, k: usize) -> usize {
+    let n = least(k, 65520);
+    if kind == 17 { n * 18 } else { n * 10 }
+}
+
+// The first answer of a piece that does not begin with the kind, behind so many bytes of its log.
+fn named(letter: u8, kind: u8, before: u64, log: &[u8]) -> Other {
+    let k = first_other(kind, log);
+    let at = place_of(kind, k);
+    Other {
+        letter,
+        answer: counted(answers_in(kind, before), k),
+        place: counted(before, at),
+        byte: byte_at(log, at),
+        kind,
+    }
+}
+
+fn first_or_second(kind: u8, t: Tally, a: &[u8], b: &[u8]) -> Other {
+    if mixed(kind, a) {
+        return named(65, kind, t.first, a);
+    }
+    named(66, kind, t.second, b)
+}
+
+// The kind of the logs: that of the pieces before, or of the first.
+fn kind_with(before: u8, a: &[u8], b: &[u8]) -> u8 {
+    if before == 0 { kind_of(a, b) } else { before }
+}
+
+// Past the last pieces.
+fn finished(t: Tally) -> Turned {
+    if t.cut {
         return Turned {
             tally: t,
-            end: End::Refused(r.refusal),
+            end: End::Refused(6),
+        };
+    }
+    Turned {
+        tally: t,
+        end: End::Done,
+    }
+}
+
+// The next pieces of both logs. A log that is cut is refused at the ends of both, for 5 comes before 6.
+fn piece<'a>(shows: bool, t: Tally, a: &'a [u8], b: &'a [u8], list: &mut [u64]) -> Turned {
+    let kind = kind_with(t.kind, a, b);
+    let r = comparison::compare_numbers_as(kind, a, b, list);
+    if r.refusal == 5 {
+        return Turned {
+            tally: t,
+            end: End::OtherKind(first_or_second(kind, t, a, b)),
+        };
+    }
+    if r.refusal == 7 {
+        return Turned {
+            tally: t,
+            end: End::Refused(7),
         };
     }
     if shows {
-        if !show_list(t.answers, a, b, list, r.count) {
+        if !show_list(kind, answers_of(t), a, b, list, r.count) {
             return Turned {
                 tally: t,
                 end: End::NotWritten,
             };
         }
     }
-    let n = least(a.len(), b.len()) / 10;
-    let next = tallied(t, n, r);
-    if a.len() + b.len() == 0 {
-        return Turned {
-            tally: next,
-            end: End::Done,
-        };
+    let next = tallied(t, kind, a.len(), b.len(), r);
+    if (a.len() == 0) & (b.len() == 0) {
+        return finished(next);
     }
     Turned {
         tally: next,
@@ -137,18 +235,18 @@ fn turn(
     piece(shows, t, &a[..n], &b[..m], list)
 }
 
-// Room for a piece of 6,553 answers.
-fn answers() -> [u8; 65530]
-    ensures { λ r. ⌜ 65530 ≡ length r ⌝ }
+// Room for a piece of 6,552 answers of ten bytes or 3,640 of eighteen.
+fn answers() -> [u8; 65520]
+    ensures { λ r. ⌜ 65520 ≡ length r ⌝ }
 {
-    [0u8; 65530]
+    [0u8; 65520]
 }
 
 // Two numbers for each of them.
-fn numbers() -> [u64; 13106]
-    ensures { λ r. ⌜ 13106 ≡ length r ⌝ }
+fn numbers() -> [u64; 13104]
+    ensures { λ r. ⌜ 13104 ≡ length r ⌝ }
 {
-    [0u64; 13106]
+    [0u64; 13104]
 }
 
 // Compares what two descriptors give, from where they stand to their ends, and shows the differing answers if it is to.
@@ -156,12 +254,7 @@ pub fn pass(shows: bool, first: i32, second: i32) -> Turned {
     let mut a = answers();
     let mut b = answers();
     let mut list = numbers();
-    let mut tally = Tally {
-        answers: 0,
-        differing: 0,
-        first: 0,
-        second: 0,
-    };
+    let mut tally = nothing();
     let mut turns = u64::MAX;
     while turns > 0 {
         let t = turn(shows, tally, first, second, &mut a, &mut b, &mut list);

@@ -3,6 +3,8 @@ ghost use mathlib.Core.Path.{_≡_};
 ghost use Prim.Native.Nat.{_*_};
 ghost use lib.ListN.{drop};
 ghost use Rattle.text.specs.Log.{loggedAt};
+ghost use Rattle.comparison.specs.Kind.{strideOf};
+use comparison::kinds::stride_of;
 use files::output::write_first;
 use files::pieces::counted;
 use libc::STDOUT_FILENO;
@@ -35,23 +37,25 @@ fn show_answer(n: u64, sum: u64, x: Logged, y: Logged) -> bool {
     let mask = show_field(sum / 16 % 2 == 1, n, Field::Mask, x, y);
     let level = show_field(sum / 32 % 2 == 1, n, Field::Level, x, y);
     let vector = show_field(sum / 64 % 2 == 1, n, Field::Vector, x, y);
-    kind & refusal & value & levels & mask & level & vector
+    let clock = show_field(sum / 128 % 2 == 1, n, Field::Clock, x, y);
+    kind & refusal & value & levels & mask & level & vector & clock
 }
 
-// Answer k of a piece; zeros where it is not there.
-fn answer_of(log: &[u8], k: u64) -> Logged
-    ensures { λ r. ⌜ r ≡ loggedAt (drop (k * 10) (now (log .entry))) ⌝ }
+// Answer k of a piece of a kind; zeros where it is not there.
+fn answer_of(kind: u8, log: &[u8], k: u64) -> Logged
+    ensures { λ r. ⌜ r ≡ loggedAt (drop (k * strideOf kind) (now (log .entry))) ⌝ }
 {
-    let n = log.len() / 10;
-    if k < n as u64 {
-        let at = k as usize * 10;
+    let stride = stride_of(kind);
+    let n = log.len() / stride;
+    if k <= n as u64 {
+        let at = k as usize * stride;
         return logged_at(&log[at..]);
     }
     logged_at(&log[..0])
 }
 
 // The answers that a list of so many names, numbered on from the piece's first. Whether they could be written.
-pub fn show_list(first: u64, a: &[u8], b: &[u8], list: &[u64], count: u64) -> bool {
+pub fn show_list(kind: u8, first: u64, a: &[u8], b: &[u8], list: &[u64], count: u64) -> bool {
     let mut left = count;
     let mut at: usize = 0;
     while left > 0 {
@@ -60,7 +64,12 @@ pub fn show_list(first: u64, a: &[u8], b: &[u8], list: &[u64], count: u64) -> bo
         }
         let k = list[at];
         let n = counted(first, k as usize);
-        if !show_answer(n, list[at + 1], answer_of(a, k), answer_of(b, k)) {
+        if !show_answer(
+            n,
+            list[at + 1],
+            answer_of(kind, a, k),
+            answer_of(kind, b, k),
+        ) {
             return false;
         }
         at += 2;

@@ -23,19 +23,21 @@ fn write_line(line: Line) -> bool {
     write_first(STDOUT_FILENO, &bytes, n)
 }
 
-fn show_answer(number: u64, bytes: &[u8]) -> Step
-    ensures { λ r. ⌜ OfAnswer (entry (now (bytes .entry))) r ⌝ }
+// The answers before it are of the kind given, or there are none and it is 0.
+fn show_answer(kind: u8, number: u64, bytes: &[u8]) -> Step
+    ensures { λ r. ⌜ OfAnswer (entry kind (now (bytes .entry))) r ⌝ }
 {
-    let e = text::log::parse_answer(bytes);
+    let e = text::log::parse_answer(kind, bytes);
     match e {
-        Entry::Whole(a) => {
-            if write_line(text::answer::answer_line(number, a)) {
+        Entry::Whole(l) => {
+            if write_line(text::answer::answer_line(number, l)) {
                 Step::Shown
             } else {
                 Step::NotWritten
             }
         }
         Entry::NoAnswer => Step::Bad(Fault::NoAnswer),
+        Entry::OtherKind => Step::Bad(Fault::OtherKind),
         Entry::NoRefusal => Step::Bad(Fault::NoRefusal),
         Entry::NotDriven => Step::Bad(Fault::NotDriven),
         Entry::Cut => Step::More,
@@ -60,13 +62,13 @@ fn show_record(number: u64, bytes: &[u8]) -> Step
     }
 }
 
-// Ruled out: a cut answer taken for bad; an unknown kind that waits for more.
-pub fn show_bytes(traces: bool, number: u64, bytes: &[u8]) -> Step
-    ensures { λ r. ⌜ OfBytes traces (now (bytes .entry)) r ⌝ }
+// Ruled out: a cut answer taken for bad; an unknown kind that waits for more; answers of two kinds in one log.
+pub fn show_bytes(traces: bool, kind: u8, number: u64, bytes: &[u8]) -> Step
+    ensures { λ r. ⌜ OfBytes traces kind (now (bytes .entry)) r ⌝ }
 {
     if traces {
         show_record(number, bytes)
     } else {
-        show_answer(number, bytes)
+        show_answer(kind, number, bytes)
     }
 }

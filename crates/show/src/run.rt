@@ -15,9 +15,11 @@ pub enum Next {
     NotWritten,
 }
 
-// Where a run stands: the bytes of the next answer or record that are there, its number and its place, and the bytes read.
+// Where a run stands: the first byte of the answer or record before, or 0 at the start; the bytes of the next that are there, its number and
+// its place, and the bytes read.
 pub struct Run {
-    pub bytes: [u8; 10],
+    pub kind: u8,
+    pub bytes: [u8; 18],
     pub have: usize,
     pub number: u64,
     pub place: u64,
@@ -34,7 +36,8 @@ impl Run {
         ensures { λ r. ⌜ Ready r ⌝ }
     {
         Run {
-            bytes: [0u8; 10],
+            kind: 0,
+            bytes: [0u8; 18],
             have: 0,
             number: 0,
             place: 0,
@@ -46,6 +49,7 @@ impl Run {
     fn past(mut self) -> Run
         ensures { λ r. ⌜ r ≡ past self ⌝ }
     {
+        self.kind = self.bytes[0];
         self.have = 0;
         self.number = counted(self.number, 1);
         self.place = self.read;
@@ -65,7 +69,7 @@ fn take(traces: bool, run: Run, b: u8) -> Turned
     now.read = counted(now.read, 1);
     let bytes = now.bytes;
     let end = at + 1;
-    let s = show_bytes(traces, now.number, &bytes[..end]);
+    let s = show_bytes(traces, now.kind, now.number, &bytes[..end]);
     match s {
         Step::Shown => Turned {
             run: now.past(),

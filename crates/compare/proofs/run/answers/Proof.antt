@@ -5,7 +5,7 @@ use Rattle.compare.proofs.run.answers.Statement.{statement}
 use Rattle.compare.proofs.run.answers.Tie as tie
 
 returns : tie.Need-returns
-returns c = sym (length-replicate {A = ℕ} 65530 0)
+returns c = sym (length-replicate {A = ℕ} 65520 0)
 
 pub answers-spec : {M : Type 1} → statement M
 answers-spec = tie.close (tie.spec returns)

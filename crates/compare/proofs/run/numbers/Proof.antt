@@ -5,7 +5,7 @@ use Rattle.compare.proofs.run.numbers.Statement.{statement}
 use Rattle.compare.proofs.run.numbers.Tie as tie
 
 returns : tie.Need-returns
-returns c = sym (length-replicate {A = ℕ} 13106 0)
+returns c = sym (length-replicate {A = ℕ} 13104 0)
 
 pub numbers-spec : {M : Type 1} → statement M
 numbers-spec = tie.close (tie.spec returns)

@@ -7,13 +7,14 @@ use Rattle.compare.proofs.run.pass.Tie as tie
 
 abbrev Inv-loop : tie.InvT-loop
 Inv-loop shows first second a₀ b₀ list₀ tally₀ turns₀ a b list tally turns =
-    (length a ≡ 65530) × (length b ≡ 65530) × (length list ≡ 13106)
+    (length a ≡ 65520) × (length b ≡ 65520) × (length list ≡ 13104)
 
 abbrev μ-loop : tie.MeasureT-loop
 μ-loop shows first second a₀ b₀ list₀ tally₀ turns₀ a b list tally turns = turns
 
 loop-holds : tie.Need-loop-holds Inv-loop μ-loop
-loop-holds c = (sym (c .before .before .answers .ensures), sym (c .before .answers2 .ensures), sym (c .numbers .ensures))
+loop-holds c =
+    (sym (c .before .before .before .answers .ensures), sym (c .before .before .answers2 .ensures), sym (c .before .numbers .ensures))
 
 loop-less : tie.Need-loop-less Inv-loop μ-loop
 loop-less c = omega (arith, c .before .before .before .before .before .before .before .before .before .before .loop-test .taken)
@@ -32,6 +33,7 @@ pass-spec =
     (tie.spec
     Inv-loop
     μ-loop
+    (λ c κs. search needs)
     (λ c κs. search needs)
     (λ c κs. search needs)
     (λ c κs. search needs)

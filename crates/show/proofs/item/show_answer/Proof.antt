@@ -30,6 +30,9 @@ returns-5 c = rw (← c .before .before .parse-answer .ensures, c .enum-told3 .g
 returns-6 : tie.Need-returns-6
 returns-6 c = rw (← c .before .before .parse-answer .ensures, c .enum-told4 .given .1) (refl)
 
+returns-7 : tie.Need-returns-7
+returns-7 c = rw (← c .before .before .parse-answer .ensures, c .enum-told5 .given .1) (refl)
+
 pub show-answer-spec : {M : Type 1} → statement M
 show-answer-spec =
     tie.close
@@ -42,9 +45,11 @@ show-answer-spec =
     (λ c. search needs)
     (λ c. search needs)
     (λ c. search needs)
+    (λ c. search needs)
     returns
     returns-2
     returns-3
     returns-4
     returns-5
-    returns-6)
+    returns-6
+    returns-7)

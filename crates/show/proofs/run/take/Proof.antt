@@ -34,7 +34,7 @@ returns-2 c =
     let part : length (take (start .args .run .have + 1) bytes) ≡ start .args .run .have + 1 =
     length-take-le _ bytes (simp length-set (omega arith)) in
     let waits =
-    fewer (start .args .traces) (take (start .args .run .have + 1) bytes) (rw (c .enum-told2 .given .1) at (shows .ensures)) in (
+    fewer (start .args .traces) (start .args .run .kind) (take (start .args .run .have + 1) bytes) (rw (c .enum-told2 .given .1) at (shows .ensures)) in (
       record {
         step = shows .result;
         allowed = shows .ensures;

@@ -6,4 +6,4 @@ returns : tie.Need-returns
 returns c = rw (c .counted .ensures)
 
 pub past-spec : {M : Type 1} → statement M
-past-spec = tie.close (tie.spec (λ c κs. search needs) returns)
+past-spec = tie.close (tie.spec (λ c. search needs) (λ c κs. search needs) returns)
