@@ -37,9 +37,10 @@ enum qsm_refusal {
     QSM_UNMAPPED = 2,     /* a byte touched is not in the map */
     QSM_UNMODELLED = 3,   /* a write would set an unmodelled bit, BITS 1 to 7, or SPE with MSTR clear */
     QSM_GUARDED = 4,      /* a write would change a guarded field while its half is on */
-    QSM_UNKNOWN_KIND = 5, /* trace: a record of unknown kind; editions: the buffer has one, or one that would have been refused */
-    QSM_CUT_RECORD = 6,   /* trace: a record cut by the end; compare: a length that is no multiple of 10; editions: the used length cuts a
-                             record or passes the buffer's end */
+    QSM_UNKNOWN_KIND = 5, /* trace: a record of unknown kind; compare: not every answer begins with the same one of 10 and 11 (hex);
+                             editions: the buffer has one, or one that would have been refused */
+    QSM_CUT_RECORD = 6,   /* trace: a record cut by the end; compare: a length that is no multiple of an answer's, 10 or 18 bytes;
+                             editions: the used length cuts a record or passes the buffer's end */
     QSM_NO_ROOM = 7,      /* trace: fewer than 18 bytes left of the log; compare: the list is too short; editions: 64 records, or no room */
     QSM_NO_EDITION = 8,   /* editions: one to add that is not above the last, one to withdraw or to get that is not there */
     QSM_CLOCK_LIMIT = 10, /* a hold, also in a trace: the clocks since reset would pass 2^64 - 1 */
@@ -200,12 +201,12 @@ struct qsm_played {
 /* Fields of an answer in a log, as qsm_compare adds them up. */
 enum qsm_field {
     QSM_FIELD_KIND = 1, QSM_FIELD_REFUSAL = 2, QSM_FIELD_VALUE = 4, QSM_FIELD_LEVELS = 8, QSM_FIELD_MASK = 16, QSM_FIELD_LEVEL = 32,
-    QSM_FIELD_VECTOR = 64
+    QSM_FIELD_VECTOR = 64, QSM_FIELD_CLOCK = 128
 };
 
 struct qsm_compared {
     uint64_t count;  /* answers that differ: twice as many numbers are in the list */
-    uint8_t refusal; /* QSM_CUT_RECORD, QSM_NO_ROOM; else QSM_ANSWERED */
+    uint8_t refusal; /* QSM_UNKNOWN_KIND, QSM_CUT_RECORD, QSM_NO_ROOM; else QSM_ANSWERED */
     bool second;     /* the surplus is the second log's; the first's where neither is longer */
     size_t start;    /* its place in that log: the common end */
     size_t length;   /* its bytes */
@@ -303,9 +304,11 @@ uint8_t qsm_noise(const struct qsm *m);
 struct qsm_played qsm_play(struct qsm m, const uint8_t *trace, size_t length, uint8_t *log, size_t room);
 
 /*
- * Compares two logs. For each answer that differs the list gets two numbers, in order: the answer's, from 0, and the sum of its differing
- * fields. The list past them is as it was. What the longer log has past the shorter one's end is named by its place. QSM_CUT_RECORD, then
- * QSM_NO_ROOM, refuse: count 0, no surplus, and the list is as it was.
+ * Compares two logs of one kind: answers of 10 bytes that begin with 10 (hex), or of 18 that begin with 11 and end with the clock. The first
+ * byte of the first log that is not empty says which. For each answer that differs the list gets two numbers, in order: the answer's, from 0,
+ * and the sum of its differing fields. The list past them is as it was. What the longer log has past the shorter one's end is named by its
+ * place. QSM_UNKNOWN_KIND, if an answer of either log, a cut last one too, begins with another byte; then QSM_CUT_RECORD, then QSM_NO_ROOM,
+ * refuse: count 0, no surplus, and the list is as it was.
  */
 struct qsm_compared qsm_compare(const uint8_t *first, size_t first_length, const uint8_t *second, size_t second_length,
                                 uint64_t *list, size_t room);

@@ -41,7 +41,7 @@ fn main() {
 Prints a log as text, a line for each answer; with --trace, a trace, a line for each
 record. Without a file, or with -, it reads standard input.
 
-  replay trace.bin | show        8: refusal 2 (unmapped), value 00000000, pins TXD=0, no request, clock 1024
+  replay trace.bin | show        8: refusal 2 (unmapped), value 00000000, pins TXD=0, no request, clock 1344
   show --trace trace.bin         8: read as supervisor, width 2, unmapped at 0002
 
 The clock is the number of clocks since reset. A log of answers without it, of kind 10, is shown too; all
