@@ -5,7 +5,7 @@ use lib.Dec.{eqb}
 use Rattle.files.specs.Pieces.{counted}
 use Rattle.comparison.specs.Kind.{strideOf}
 use Rattle.comparison.specs.declared.Compared.{Compared}
-use Rattle.compare.specs.declared.run.Tally.{Tally}
+use Rattle.compare.specs.declared.tally.Tally.{Tally}
 
 -- A piece more, of so many bytes of the first log and of the second: the differing answers join the count, and a log that ends within an
 -- answer is remembered.

@@ -5,19 +5,20 @@ use files::message::say;
 use libc::STDIN_FILENO;
 use run::End;
 use run::Other;
-use run::Tally;
 use run::Turned;
+use tally::Tally;
 
 mod run;
 mod show;
+mod tally;
 
 fn say_verdict(t: Tally) -> bool {
-    let answers = run::answers_of(t);
+    let answers = tally::answers_of(t);
     if (t.differing == 0) & (t.first == t.second) {
         return show::write_line(text::verdict::equal_line(answers));
     }
-    let first = run::more_of(t.kind, t.first, t.second);
-    let second = run::more_of(t.kind, t.second, t.first);
+    let first = tally::more_of(t.kind, t.first, t.second);
+    let second = tally::more_of(t.kind, t.second, t.first);
     show::write_line(text::verdict::differ_line(t.differing, answers, first, second))
 }
 
@@ -53,7 +54,7 @@ struct Passed {
 fn nothing() -> Passed {
     Passed {
         whole: false,
-        tally: run::nothing(),
+        tally: tally::nothing(),
     }
 }
 

@@ -3,9 +3,12 @@
 ghost use mathlib.Core.Path.{_≡_};
 ghost use lib.ListN.{length};
 ghost use Rattle.io.specs.Counts.{Counts};
-ghost use Rattle.compare.specs.Tally.{tallied, answersIn, answersOf, moreOf};
 use crate::show::show_list;
-use comparison::Compared;
+use crate::tally::Tally;
+use crate::tally::answers_in;
+use crate::tally::answers_of;
+use crate::tally::nothing;
+use crate::tally::tallied;
 use comparison::kinds::first_other;
 use comparison::kinds::kind_of;
 use comparison::kinds::mixed;
@@ -13,16 +16,6 @@ use files::pieces::Filled;
 use files::pieces::counted;
 use files::pieces::fill;
 use files::pieces::least;
-
-// What has been compared so far: the logs' kind, or 0 before the first piece; whether a log ended within an answer; how many answers differ;
-// and the bytes of each log.
-pub struct Tally {
-    pub kind: u8,
-    pub cut: bool,
-    pub differing: u64,
-    pub first: u64,
-    pub second: u64,
-}
 
 // An answer that does not begin with the logs' kind: which log's, A or B, its number and its place in bytes, what it begins with, and the kind.
 pub struct Other {
@@ -46,60 +39,6 @@ pub enum End {
 pub struct Turned {
     pub tally: Tally,
     pub end: End,
-}
-
-pub fn nothing() -> Tally {
-    Tally {
-        kind: 0,
-        cut: false,
-        differing: 0,
-        first: 0,
-        second: 0,
-    }
-}
-
-// A piece more, of a and of b bytes.
-// Ruled out: the bytes of the first log counted as the second's; a count of the piece alone; a cut log forgotten.
-fn tallied(t: Tally, kind: u8, a: usize, b: usize, r: Compared) -> Tally
-    ensures { λ s. ⌜ s ≡ tallied t kind a b r ⌝ }
-{
-    Tally {
-        kind,
-        cut: t.cut | (r.refusal == 6),
-        differing: counted(t.differing, r.count as usize),
-        first: counted(t.first, a),
-        second: counted(t.second, b),
-    }
-}
-
-// How many answers of a kind so many bytes are.
-// Ruled out: ten bytes for both kinds; one more for a cut answer.
-pub fn answers_in(kind: u8, bytes: u64) -> u64
-    ensures { λ r. ⌜ r ≡ answersIn kind bytes ⌝ }
-{
-    if kind == 17 { bytes / 18 } else { bytes / 10 }
-}
-
-// The answers that both logs have.
-// Ruled out: the answers of the longer log; bytes for answers.
-pub fn answers_of(t: Tally) -> u64
-    ensures { λ r. ⌜ r ≡ answersOf t ⌝ }
-{
-    if t.first < t.second {
-        return answers_in(t.kind, t.first);
-    }
-    answers_in(t.kind, t.second)
-}
-
-// How many answers a log has more than the other, by their bytes.
-// Ruled out: bytes for answers; a surplus of the shorter log.
-pub fn more_of(kind: u8, mine: u64, other: u64) -> u64
-    ensures { λ r. ⌜ r ≡ moreOf kind mine other ⌝ }
-{
-    if mine < other {
-        return answers_in(kind, 0);
-    }
-    answers_in(kind, mine - other)
 }
 
 // Reads until the buffer is full or the input ends.

@@ -1,6 +1,6 @@
 use borrow.Author.Tests.{eq-eqb, ne-eqb}
-use Rattle.compare.proofs.run.answers_in.Statement.{statement}
-use Rattle.compare.proofs.run.answers_in.Tie as tie
+use Rattle.compare.proofs.tally.answers_in.Statement.{statement}
+use Rattle.compare.proofs.tally.answers_in.Tie as tie
 
 returns : tie.Need-returns
 returns c = rw (eq-eqb _ _ (c .if1 .taken))

@@ -1,6 +1,6 @@
 use borrow.Author.Needs.{needs}
-use Rattle.compare.proofs.run.tallied.Statement.{statement}
-use Rattle.compare.proofs.run.tallied.Tie as tie
+use Rattle.compare.proofs.tally.tallied.Statement.{statement}
+use Rattle.compare.proofs.tally.tallied.Tie as tie
 
 returns : tie.Need-returns
 returns c = rw (c .counted3 .ensures, c .before .counted2 .ensures, c .before .before .counted .ensures)

@@ -2,8 +2,8 @@ use mathlib.Core.Path.{_≡_}
 use Prim.Native.Nat.{min}
 use native.Mathlib.Omega.{arith}
 use borrow.Author.Needs.{needs}
-use Rattle.compare.proofs.run.answers_of.Statement.{statement}
-use Rattle.compare.proofs.run.answers_of.Tie as tie
+use Rattle.compare.proofs.tally.answers_of.Statement.{statement}
+use Rattle.compare.proofs.tally.answers_of.Tie as tie
 
 returns : tie.Need-returns
 returns c =

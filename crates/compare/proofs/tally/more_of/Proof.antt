@@ -2,8 +2,8 @@ use mathlib.Core.Path.{_≡_}
 use Prim.Native.Nat.{_-_}
 use native.Mathlib.Omega.{arith}
 use borrow.Author.Needs.{needs}
-use Rattle.compare.proofs.run.more_of.Statement.{statement}
-use Rattle.compare.proofs.run.more_of.Tie as tie
+use Rattle.compare.proofs.tally.more_of.Statement.{statement}
+use Rattle.compare.proofs.tally.more_of.Tie as tie
 
 returns : tie.Need-returns
 returns c =
