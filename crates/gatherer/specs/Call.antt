@@ -1,0 +1,172 @@
+-- Document 02, L8: the library's state, and a call, which goes on to the next line, drop, stop or end.
+use mathlib.Core.Path.{_≡_}
+use mathlib.Core.Bool.{Bool, true, false, cond, _||_}
+use mathlib.Core.List.{List, [], _∷_, _++_}
+use Prim.Native.Nat.{ℕ, zero, suc, _+_, _-_, _*_, _%_, _^_}
+use lib.Dec.{eqb, ltb, leb}
+use lib.ListN.{length, take, drop}
+use Rattle.qsm.specs.State.{resetModule}
+use Rattle.qsm.specs.Event.{does}
+use Rattle.qsm.specs.declared.state.Module.{Module}
+use Rattle.qsm.specs.declared.event.Access.{Access}
+use Rattle.qsm.specs.declared.event.Event.{Event}
+use Rattle.qsm.specs.declared.event.Event.the-variants.{Reset, Hold}
+use Rattle.qsm.specs.declared.event.Event.the-variants as event
+use Rattle.trace.specs.Trace.{parsed}
+use Rattle.trace.specs.Play.{refusalOf}
+use Rattle.trace.specs.declared.Parsed.{Parsed}
+use Rattle.trace.specs.declared.Parsed.the-variants.{Record, Unknown, Cut}
+use Rattle.gatherer.specs.Poll.{polled}
+use Rattle.gatherer.specs.Schedule.{stops}
+use Rattle.gatherer.specs.Gather.{most, forgotten, shown}
+use Rattle.gatherer.specs.Replay.{firstLine}
+use Rattle.gatherer.specs.declared.line.Line.{Line}
+use Rattle.gatherer.specs.declared.line.Gathered.{Gathered}
+use Rattle.gatherer.specs.declared.line.Outcome.{Outcome}
+use Rattle.gatherer.specs.declared.line.Outcome.the-variants.{Nothing, Handed, Dropped, Stopped, Ended, Refused}
+use Rattle.gatherer.specs.declared.poll.Polled.{Polled}
+use Rattle.gatherer.specs.declared.Lines.{Lines}
+use Rattle.gatherer.specs.declared.Turned.{Turned}
+
+-- At the start of a trace, on a module fresh from reset.
+abbrev pub started : Lines
+started =
+    record { device = resetModule; at = 0; left = 0; pins = 0; rxd = false; since = 0; line = firstLine }
+
+abbrev pub turned : Lines → Outcome → Turned
+turned s o = record { state = s; outcome = o }
+
+-- Past a record.
+abbrev pub movedTo : Lines → ℕ → Lines
+movedTo s at =
+    record { device = s .device; at = at; left = s .left; pins = s .pins; rxd = s .rxd; since = s .since; line = s .line }
+
+-- So many clocks of a hold, of which so many are left then, and so many clocks have passed since the last poll.
+abbrev pub heldFor : Lines → ℕ → Bool → ℕ → ℕ → ℕ → Lines
+heldFor s pins rxd n left since =
+    record {
+      device = does (s .device) (Hold pins rxd n) .state;
+      at = s .at;
+      left = left;
+      pins = pins;
+      rxd = rxd;
+      since = since;
+      line = s .line;
+    }
+
+-- A poll, and what it makes of the line.
+abbrev pub gathered : Lines → Polled → Gathered → Turned
+gathered s p g =
+    turned
+    (record {
+      device = p .state;
+      at = s .at;
+      left = s .left;
+      pins = s .pins;
+      rxd = s .rxd;
+      since = s .since;
+      line = g .line;
+    })
+    (g .outcome)
+
+abbrev pub pollNow : Lines → Turned
+pollNow s = gathered s (polled (s .device)) (shown (s .line) (polled (s .device) .status) (polled (s .device) .word))
+
+-- A hold of n clocks, or as much of it as comes before the next poll, and then the poll.
+abbrev pub holdFor : ℕ → ℕ → Lines → ℕ → Bool → ℕ → Turned
+holdFor period since s pins rxd n =
+    cond (ltb n (period - since)) (turned (heldFor s pins rxd n 0 (since + n)) Nothing)
+    (pollNow (heldFor s pins rxd (period - since) (n - (period - since)) 0))
+
+-- Clocks since the last poll, in whatever state.
+abbrev pub sinceOf : ℕ → Lines → ℕ
+sinceOf period s = s .since % period
+
+unfoldable pub holdOn : ℕ → Lines → ℕ → Bool → ℕ → Turned
+holdOn period s pins rxd n = holdFor period (sinceOf period s) s pins rxd n
+
+abbrev pub restarted : Lines → Lines
+restarted s =
+    record {
+      device = resetModule;
+      at = s .at;
+      left = s .left;
+      pins = s .pins;
+      rxd = s .rxd;
+      since = 0;
+      line = forgotten (s .line);
+    }
+
+abbrev pub accessed : Lines → Access → Lines
+accessed s a =
+    record {
+      device = does (s .device) (event.Access a) .state;
+      at = s .at;
+      left = s .left;
+      pins = s .pins;
+      rxd = s .rxd;
+      since = s .since;
+      line = s .line;
+    }
+
+unfoldable pub eventOn : ℕ → Lines → Event → Turned
+eventOn period s Reset = turned (restarted s) Nothing
+eventOn period s (Hold pins rxd n) = holdOn period s pins rxd n
+eventOn period s (event.Access a) = turned (accessed s a) Nothing
+
+-- The record where the trace stands.
+abbrev pub recordOn : ℕ → Lines → Parsed → Turned
+recordOn period s (Record e n) =
+    cond (eqb (stops e) 0) (eventOn period (movedTo s (s .at + n)) e) (turned s (Stopped (stops e)))
+recordOn period s Unknown = turned s (Stopped 5)
+recordOn period s Cut = turned s (Stopped 6)
+
+-- A turn: the hold under way up to the next poll, or the next record.
+unfoldable pub turn : ℕ → List ℕ → Lines → Turned
+turn period t s =
+    cond (eqb (s .left) 0)
+    (cond (leb (length t) (s .at)) (turned s Ended) (recordOn period s (parsed (drop (s .at) t))))
+    (holdOn period s (s .pins) (s .rxd) (s .left))
+
+abbrev pub nothing : Outcome → Bool
+nothing Nothing = true
+nothing (Handed number n) = false
+nothing (Dropped number cause) = false
+nothing (Stopped why) = false
+nothing Ended = false
+nothing (Refused why) = false
+
+abbrev pub onward : (Lines → Turned) → Turned → Turned
+onward on r = cond (nothing (r .outcome)) (on (r .state)) r
+
+-- Turn after turn until there is something to tell, for at most so many turns.
+unfoldable pub goFor : ℕ → ℕ → List ℕ → Lines → Turned
+goFor zero period t s = turned s Nothing
+goFor (suc k) period t s = onward (goFor k period t) (turn period t s)
+
+-- Each turn takes a byte of the trace, of which none brings as many as 2^32 clocks, or a clock of the hold under way.
+abbrev pub turnsLeft : List ℕ → Lines → ℕ
+turnsLeft t s = (length t - s .at) * 2 ^ 32 + s .left
+
+unfoldable pub goOn : ℕ → List ℕ → Lines → Turned
+goOn period t s = goFor (suc (turnsLeft t s)) period t s
+
+-- The period is 1 to 65,535, else refusal 1; then a line buffer under 128 bytes is refusal 7. Either leaves the state as it is.
+abbrev pub called : ℕ → List ℕ → ℕ → Lines → Turned
+called period t room s =
+    cond (eqb period 0 || ltb 65535 period) (turned s (Refused 1))
+    (cond (ltb room most) (turned s (Refused 7)) (goOn period t s))
+
+-- The lent buffer afterwards: a line's characters at its start and the rest as it was; otherwise unchanged.
+abbrev pub handedIn : Line → Outcome → List ℕ → List ℕ
+handedIn l Nothing lent = lent
+handedIn l (Handed number n) lent = take n (l .characters) ++ drop n lent
+handedIn l (Dropped number cause) lent = lent
+handedIn l (Stopped why) lent = lent
+handedIn l Ended lent = lent
+handedIn l (Refused why) lent = lent
+
+-- What a call answers, and what it leaves of the lent line buffer.
+pub record Calls (o : Turned) (lent : List ℕ) (r : Turned) (left : List ℕ) : Type 0 where
+  pub answer : r ≡ o
+  pub buffer : left ≡ handedIn (o .state .line) (o .outcome) lent

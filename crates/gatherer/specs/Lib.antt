@@ -1,0 +1,6 @@
+pub mod Poll
+pub mod Schedule
+pub mod Gather
+pub mod Replay
+pub mod Call
+pub mod Laws
