@@ -114,6 +114,12 @@ eventOn period s Reset = turned (restarted s) Nothing
 eventOn period s (Hold pins rxd n) = holdOn period s pins rxd n
 eventOn period s (event.Access a) = turned (accessed s a) Nothing
 
+-- How far a record takes the place in the trace.
+abbrev pub sizeOf : Parsed → ℕ
+sizeOf (Record e n) = n
+sizeOf Unknown = 0
+sizeOf Cut = 0
+
 -- The record where the trace stands.
 abbrev pub recordOn : ℕ → Lines → Parsed → Turned
 recordOn period s (Record e n) =
@@ -160,7 +166,7 @@ called period t room s =
 -- The lent buffer afterwards: a line's characters at its start and the rest as it was; otherwise unchanged.
 abbrev pub handedIn : Line → Outcome → List ℕ → List ℕ
 handedIn l Nothing lent = lent
-handedIn l (Handed number n) lent = take n (l .characters) ++ drop n lent
+handedIn l (Handed number n) lent = take n (l .characters) ++ drop (length (take n (l .characters))) lent
 handedIn l (Dropped number cause) lent = lent
 handedIn l (Stopped why) lent = lent
 handedIn l Ended lent = lent

@@ -29,9 +29,12 @@ pollEvents m = statusRead ∷ cond (calls (status m SCI)) (dataRead ∷ []) []
 abbrev pub looked : Module → Module
 looked m = does m statusRead .state
 
--- What a poll leaves, the status that it shows, and the word that it reads, 0 where it reads none.
+-- Data is read or not: what that leaves, the status that was shown, and the word that is read, 0 where none is.
+abbrev pub taking : Module → ℕ → Bool → Polled
+taking m shown reading =
+    cond reading (record { state = does m dataRead .state; status = shown; word = readAt m 2 0x0E })
+    (record { state = m; status = shown; word = 0 })
+
+-- What a poll leaves and shows.
 unfoldable pub polled : Module → Polled
-polled m =
-    cond (calls (status m SCI))
-    (record { state = does (looked m) dataRead .state; status = status m SCI; word = readAt (looked m) 2 0x0E })
-    (record { state = looked m; status = status m SCI; word = 0 })
+polled m = taking (looked m) (status m SCI) (calls (status m SCI))

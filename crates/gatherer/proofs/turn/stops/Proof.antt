@@ -1,0 +1,19 @@
+use borrow.Author.Needs.{needs}
+use Rattle.gatherer.proofs.turn.stops.Statement.{statement}
+use Rattle.gatherer.proofs.turn.stops.Tie as tie
+
+returns-3 : tie.Need-returns-3
+returns-3 c = rw (c .choose .ensures, c .before .reaches .ensures, c .before .before .before .e .given .1)
+
+pub stops-spec : {M : Type 1} → statement M
+stops-spec =
+    tie.close
+    (tie.spec
+    (λ c. search needs)
+    (λ c. search needs)
+    (λ c. search needs)
+    (λ c κs. search needs)
+    (λ c κs. search needs)
+    (λ c. search needs)
+    (λ c. search needs)
+    returns-3)
