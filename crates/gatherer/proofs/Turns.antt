@@ -17,7 +17,7 @@ use Rattle.trace.specs.declared.Parsed.{Parsed}
 use Rattle.trace.specs.declared.Parsed.the-variants.{Record, Unknown, Cut}
 use Rattle.trace.proofs.Playing.{record-within}
 use Rattle.gatherer.specs.Schedule.{stops}
-use Rattle.gatherer.specs.Call.{turned, movedTo, heldFor, pollNow, sinceOf, holdOn, eventOn, sizeOf, recordOn, turn, nothing, onward, goFor, turnsLeft, goOn}
+use Rattle.gatherer.specs.Call.{turned, movedTo, heldFor, pollNow, sinceOf, holdOn, eventOn, eventOrStop, sizeOf, recordOn, underWay, turn, nothing, onward, goFor, turnsLeft, goOn}
 use Rattle.gatherer.specs.declared.line.Outcome.{Outcome}
 use Rattle.gatherer.specs.declared.line.Outcome.the-variants.{Nothing, Handed, Dropped, Stopped, Ended, Refused}
 use Rattle.gatherer.specs.declared.Lines.{Lines}
@@ -73,28 +73,39 @@ never : (o : Outcome) → nothing o ≡ false → o ≡ Nothing → ⊥
 never o is not = true≢false (ap nothing (sym not) ∙ is)
 
 module _ (period : ℕ) (t : List ℕ) (s : Lines) (pos : 0 < period) where
-  event-moves : (e : Event) (n : ℕ) → 0 < n → s .at < length t → (goes : Bool)
-      → cond goes (eventOn period (movedTo s (s .at + n)) e) (turned s (Stopped (stops e))) .outcome ≡ Nothing
-      → Moves t s (cond goes (eventOn period (movedTo s (s .at + n)) e) (turned s (Stopped (stops e))) .state)
-  event-moves e n some lt true is = byte (omega (arith, event-at period (movedTo s (s .at + n)) e)) lt
-  event-moves e n some lt false is = absurd (never (Stopped (stops e)) refl is)
+  event-moves : (e : Event) (n why : ℕ) → 0 < n → s .at < length t → (goes : Bool)
+      → cond goes (eventOn period (movedTo s (s .at + n)) e) (turned s (Stopped why)) .outcome ≡ Nothing
+      → Moves t s (cond goes (eventOn period (movedTo s (s .at + n)) e) (turned s (Stopped why)) .state)
+  event-moves e n why some lt true is = byte (omega (arith, event-at period (movedTo s (s .at + n)) e)) lt
+  event-moves e n why some lt false is = absurd (never (Stopped why) refl is)
 
   record-moves : (p : Parsed) → parsed (drop (s .at) t) ≡ p → s .at < length t → recordOn period s p .outcome ≡ Nothing
       → Moves t s (recordOn period s p .state)
-  record-moves (Record e n) here lt is = event-moves e n (record-within (drop (s .at) t) here .0) lt (eqb (stops e) 0) is
+  record-moves (Record e n) here lt is = event-moves e n (stops (s .device .clock) e) (record-within (drop (s .at) t) here .0) lt (eqb (stops (s .device .clock) e) 0) is
   record-moves Unknown here lt is = absurd (never (Stopped 5) refl is)
   record-moves Cut here lt is = absurd (never (Stopped 6) refl is)
 
-  moves-by : (idle over : Bool) → eqb (s .left) 0 ≡ idle → leb (length t) (s .at) ≡ over
-      → cond idle (cond over (turned s Ended) (recordOn period s (parsed (drop (s .at) t)))) (holdOn period s (s .pins) (s .rxd) (s .left)) .outcome
-      ≡ Nothing
-      → Moves t s
-      (cond idle (cond over (turned s Ended) (recordOn period s (parsed (drop (s .at) t)))) (holdOn period s (s .pins) (s .rxd) (s .left)) .state)
+  hold-moves : 0 < s .left → (why : ℕ) (goes : Bool)
+      → cond goes (eventOn period (movedTo s (s .at + 0)) (underWay s)) (turned s (Stopped why)) .outcome ≡ Nothing
+      → Moves t s (cond goes (eventOn period (movedTo s (s .at + 0)) (underWay s)) (turned s (Stopped why)) .state)
+  unfolding eventOn
+  hold-moves some why true is =
+      clock (hold-at period (movedTo s (s .at + 0)) (s .pins) (s .rxd) (s .left) ∙ omega arith)
+      (hold-left period (movedTo s (s .at + 0)) (s .pins) (s .rxd) (s .left) pos some)
+  hold-moves some why false is = absurd (never (Stopped why) refl is)
+
+  abbrev turning : Bool → Bool → Turned
+  turning idle over =
+      cond idle (cond over (turned s Ended) (recordOn period s (parsed (drop (s .at) t))))
+      (eventOrStop period s (underWay s) 0 (stops (s .device .clock) (underWay s)))
+
+  moves-by : (idle over : Bool) → eqb (s .left) 0 ≡ idle → leb (length t) (s .at) ≡ over → turning idle over .outcome ≡ Nothing
+      → Moves t s (turning idle over .state)
   moves-by true true idle over is = absurd (never Ended refl is)
   moves-by true false idle over is = record-moves (parsed (drop (s .at) t)) refl (leb-false (length t) (s .at) over) is
-  moves-by false over idle over' is =
-      let some : 0 < s .left = omega (arith, eqb-false (s .left) 0 idle) in
-      clock (hold-at period s (s .pins) (s .rxd) (s .left)) (hold-left period s (s .pins) (s .rxd) (s .left) pos some)
+  moves-by false past idle over is =
+      hold-moves (omega (arith, eqb-false (s .left) 0 idle)) (stops (s .device .clock) (underWay s))
+      (eqb (stops (s .device .clock) (underWay s)) 0) is
 
   moves : turn period t s .outcome ≡ Nothing → Moves t s (turn period t s .state)
   unfolding turn

@@ -120,19 +120,26 @@ sizeOf (Record e n) = n
 sizeOf Unknown = 0
 sizeOf Cut = 0
 
+-- An event whose record has so many bytes, unless it stops the replay before it.
+abbrev pub eventOrStop : ℕ → Lines → Event → ℕ → ℕ → Turned
+eventOrStop period s e n why = cond (eqb why 0) (eventOn period (movedTo s (s .at + n)) e) (turned s (Stopped why))
+
 -- The record where the trace stands.
 abbrev pub recordOn : ℕ → Lines → Parsed → Turned
-recordOn period s (Record e n) =
-    cond (eqb (stops e) 0) (eventOn period (movedTo s (s .at + n)) e) (turned s (Stopped (stops e)))
+recordOn period s (Record e n) = eventOrStop period s e n (stops (s .device .clock) e)
 recordOn period s Unknown = turned s (Stopped 5)
 recordOn period s Cut = turned s (Stopped 6)
+
+-- The hold under way.
+abbrev pub underWay : Lines → Event
+underWay s = Hold (s .pins) (s .rxd) (s .left)
 
 -- A turn: the hold under way up to the next poll, or the next record.
 unfoldable pub turn : ℕ → List ℕ → Lines → Turned
 turn period t s =
     cond (eqb (s .left) 0)
     (cond (leb (length t) (s .at)) (turned s Ended) (recordOn period s (parsed (drop (s .at) t))))
-    (holdOn period s (s .pins) (s .rxd) (s .left))
+    (eventOrStop period s (underWay s) 0 (stops (s .device .clock) (underWay s)))
 
 abbrev pub nothing : Outcome → Bool
 nothing Nothing = true

@@ -38,7 +38,7 @@ firstLine = record { number = 0; cause = 0; count = 0; characters = replicate mo
 
 -- A trace on a module fresh from reset: the events, and the lines and drops.
 abbrev pub polledEvents : ℕ → List ℕ → List Event
-polledEvents period t = eventsOf (scheduled period 0 t .acts) resetModule
+polledEvents period t = eventsOf (scheduled period 0 0 t .acts) resetModule
 
 abbrev pub lines : ℕ → List ℕ → List Report
-lines period t = gather firstLine (notices (scheduled period 0 t .acts) resetModule)
+lines period t = gather firstLine (notices (scheduled period 0 0 t .acts) resetModule)

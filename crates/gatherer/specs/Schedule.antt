@@ -3,10 +3,11 @@
 use mathlib.Core.Bool.{Bool, cond, _&&_}
 use mathlib.Core.List.{List, [], _∷_, _++_}
 use Prim.Native.Nat.{ℕ, zero, suc, _+_, _-_, _/_, _%_}
-use lib.Dec.{eqb}
+use lib.Dec.{eqb, ltb}
 use lib.ListN.{length, drop}
 use Rattle.qsm.specs.Lanes.{inMap, touches}
 use Rattle.qsm.specs.Decision.{shaped, fits}
+use Rattle.qsm.specs.Event.{clockLimit}
 use Rattle.qsm.specs.declared.event.Access.{Access}
 use Rattle.qsm.specs.declared.event.Access.the-variants.{Read, Write}
 use Rattle.qsm.specs.declared.event.Event.{Event}
@@ -35,7 +36,7 @@ cut (suc k) period since pins rxd n =
     ∷ polls
     ∷ cond (eqb (n - (period - since)) 0) [] (cut k period 0 pins rxd (n - (period - since)))
 
--- What an event is played as, so many clocks since the last poll, and how many there are then.
+-- What an event is played as, so many clocks since the last poll; how many there are then, and how many since reset.
 abbrev pub acts : ℕ → ℕ → Event → List Act
 acts period since Reset = plays Reset ∷ []
 acts period since (Hold pins rxd n) = cut ((since + n) / period) period since pins rxd n
@@ -46,11 +47,16 @@ sinceAfter period since Reset = 0
 sinceAfter period since (Hold pins rxd n) = (since + n) % period
 sinceAfter period since (event.Access a) = since
 
--- The refusal that an event stops the replay with, before it, or 0.
-abbrev pub stops : Event → ℕ
-stops Reset = 0
-stops (Hold pins rxd n) = 0
-stops (event.Access a) = cond (reaches a) 3 0
+abbrev pub clockAfter : ℕ → Event → ℕ
+clockAfter clock Reset = 0
+clockAfter clock (Hold pins rxd n) = clock + n
+clockAfter clock (event.Access a) = clock
+
+-- The refusal that an event stops the replay with, before it, or 0; of a hold before any of its clocks, so many clocks since reset.
+abbrev pub stops : ℕ → Event → ℕ
+stops clock Reset = 0
+stops clock (Hold pins rxd n) = cond (ltb clockLimit (clock + n)) 10 0
+stops clock (event.Access a) = cond (reaches a) 3 0
 
 -- What is played, and the refusal that stopped it, or 0 at the end.
 pub record Scheduled : Type 0 where
@@ -63,19 +69,26 @@ stopped why = record { acts = []; stop = why }
 abbrev pub followed : List Act → Scheduled → Scheduled
 followed played s = record { acts = played ++ s .acts; stop = s .stop }
 
+-- An event, and what `on` gives after it.
+abbrev pub going : (ℕ → ℕ → Scheduled) → ℕ → ℕ → ℕ → Event → Scheduled
+going on period since clock e =
+    cond (eqb (stops clock e) 0)
+    (followed (acts period since e) (on (sinceAfter period since e) (clockAfter clock e)))
+    (stopped (stops clock e))
+
 -- What comes of the record at the start of t; `on` goes on with what follows it.
-abbrev pub next : (ℕ → List ℕ → Scheduled) → ℕ → ℕ → List ℕ → Parsed → Scheduled
-next on period since t (Record e n) =
-    cond (eqb (stops e) 0) (followed (acts period since e) (on (sinceAfter period since e) (drop n t))) (stopped (stops e))
-next on period since t Unknown = stopped 5
-next on period since t Cut = stopped 6
+abbrev pub next : (ℕ → ℕ → List ℕ → Scheduled) → ℕ → ℕ → ℕ → List ℕ → Parsed → Scheduled
+next on period since clock t (Record e n) = going (λ passed now. on passed now (drop n t)) period since clock e
+next on period since clock t Unknown = stopped 5
+next on period since clock t Cut = stopped 6
 
 -- At most so many records.
-unfoldable pub scheduledFor : ℕ → ℕ → ℕ → List ℕ → Scheduled
-scheduledFor zero period since t = stopped 0
-scheduledFor (suc k) period since t =
-    cond (eqb (length t) 0) (stopped 0) (next (scheduledFor k period) period since t (parsed t))
+unfoldable pub scheduledFor : ℕ → ℕ → ℕ → ℕ → List ℕ → Scheduled
+scheduledFor zero period since clock t = stopped 0
+scheduledFor (suc k) period since clock t =
+    cond (eqb (length t) 0) (stopped 0) (next (scheduledFor k period) period since clock t (parsed t))
 
--- The trace t, so many clocks since the last poll. A record has at least one byte, so there are no more records than bytes.
-abbrev pub scheduled : ℕ → ℕ → List ℕ → Scheduled
-scheduled period since t = scheduledFor (length t) period since t
+-- The trace t, so many clocks since the last poll, and so many since reset. A record has at least one byte, so there are no more records than
+-- bytes.
+abbrev pub scheduled : ℕ → ℕ → ℕ → List ℕ → Scheduled
+scheduled period since clock t = scheduledFor (length t) period since clock t

@@ -1,12 +1,11 @@
 // A turn of the replay: the hold under way up to the next poll, or the next record.
 ghost use mathlib.Core.Path.{_≡_};
-ghost use mathlib.Core.Bool.{cond};
 ghost use Prim.Native.Nat.{_+_, _^_, _<_};
-ghost use lib.Dec.{eqb};
+ghost use lib.Dec.{ltb};
+ghost use Rattle.qsm.specs.Event.{clockLimit};
 ghost use Rattle.qsm.specs.Decision.{shaped, fits};
 ghost use Rattle.gatherer.specs.Schedule.{reaches, stops};
-ghost use Rattle.gatherer.specs.Call.{turned, movedTo, heldFor, gathered, pollNow, holdFor, holdOn, restarted, accessed, eventOn, sizeOf, recordOn, turn};
-ghost use Rattle.gatherer.specs.declared.line.Outcome.the-variants as told;
+ghost use Rattle.gatherer.specs.Call.{turned, movedTo, heldFor, gathered, pollNow, holdFor, holdOn, restarted, accessed, eventOn, eventOrStop, sizeOf, recordOn, turn};
 use crate::Lines;
 use crate::Turned;
 use crate::line::Gathered;
@@ -53,13 +52,20 @@ fn reaches(a: Access) -> bool
     }
 }
 
+// Whether so many clocks more would pass 2^64 - 1.
+fn limited(clock: u64, n: u32) -> bool
+    ensures { λ r. ⌜ r ≡ ltb clockLimit (clock + n) ⌝ }
+{
+    0xFFFFFFFFFFFFFFFF - (n as u64) < clock
+}
+
 // The refusal that an event stops the replay with, before it, or 0.
-fn stops(e: Event) -> u8
-    ensures { λ r. ⌜ r ≡ stops e ⌝ }
+fn stops(clock: u64, e: Event) -> u8
+    ensures { λ r. ⌜ r ≡ stops clock e ⌝ }
 {
     match e {
         Event::Reset => 0,
-        Event::Hold(_, _, _) => 0,
+        Event::Hold(_, _, n) => steps::choose(limited(clock, n), 10, 0),
         Event::Access(a) => steps::choose(reaches(a), 3, 0),
     }
 }
@@ -177,7 +183,7 @@ impl Lines {
     // An event whose record has so many bytes, unless it stops the replay.
     fn event_or_stop(self, period: u16, e: Event, n: usize, why: u8) -> Turned
         requires { ⌜ (0 < period) × (self .at + n < 2 ^ 64) ⌝ }
-        ensures { λ r. ⌜ r ≡ cond (eqb why 0) (eventOn period (movedTo self (self .at + n)) e) (turned self (told.Stopped why)) ⌝ }
+        ensures { λ r. ⌜ r ≡ eventOrStop period self e n why ⌝ }
     {
         if why == 0 {
             self.moved_to(self.at + n).event_on(period, e)
@@ -191,7 +197,10 @@ impl Lines {
         ensures { λ r. ⌜ r ≡ recordOn period self p ⌝ }
     {
         match p {
-            Parsed::Record(e, n) => self.event_or_stop(period, e, n, stops(e)),
+            Parsed::Record(e, n) => {
+                let device = self.device;
+                self.event_or_stop(period, e, n, stops(device.clock, e))
+            }
             Parsed::Unknown => self.turned(Outcome::Stopped(5)),
             Parsed::Cut => self.turned(Outcome::Stopped(6)),
         }
@@ -203,7 +212,9 @@ impl Lines {
         ensures { λ r. ⌜ r ≡ turn period (now (trace .entry)) self ⌝ }
     {
         if self.left != 0 {
-            return self.hold_on(period, self.pins, self.rxd, self.left);
+            let device = self.device;
+            let e = Event::Hold(self.pins, self.rxd, self.left);
+            return self.event_or_stop(period, e, 0, stops(device.clock, e));
         }
         let at = self.at;
         if trace.len() <= at {

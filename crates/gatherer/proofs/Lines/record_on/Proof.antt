@@ -7,11 +7,11 @@ use Rattle.gatherer.proofs.Lines.record_on.Tie as tie
 
 event-or-stop-requires : tie.Need-event-or-stop-requires
 event-or-stop-requires c κs =
-    let fits = rw (c .before .before .p .given .1) at (c .before .before .before .before .pre .1) in
-    (c .before .before .before .before .pre .0, fits)
+    let fits = rw (c .before .before .before .p .given .1) at (c .before .before .before .before .before .pre .1) in
+    (c .before .before .before .before .before .pre .0, fits)
 
 returns : tie.Need-returns
-returns c = rw (c .event-or-stop .ensures, c .before .stops .ensures, c .before .before .before .p .given .1)
+returns c = rw (c .event-or-stop .ensures, c .before .stops .ensures, c .before .before .before .before .p .given .1)
 
 returns-2 : tie.Need-returns-2
 returns-2 c = rw (c .turned .ensures, c .before .enum-told .given .1)

@@ -8,9 +8,13 @@ use Rattle.gatherer.proofs.Turns.{rest, fits-in}
 use Rattle.gatherer.proofs.Lines.turn.Statement.{statement}
 use Rattle.gatherer.proofs.Lines.turn.Tie as tie
 
+event-or-stop-requires : tie.Need-event-or-stop-requires
+event-or-stop-requires c κs = (c .before .before .before .before .before .pre, omega arith)
+
 returns : tie.Need-returns
 unfolding turn
-returns c = rw (c .hold-on .ensures, ne-eqb _ _ (c .before .if1 .taken))
+returns c =
+    rw (c .event-or-stop .ensures, c .before .stops .ensures, ne-eqb _ _ (c .before .before .before .if1 .taken))
 
 returns-2 : tie.Need-returns-2
 unfolding turn
@@ -39,6 +43,7 @@ turn-spec =
     tie.close
     (tie.spec
     (λ c κs. search needs)
+    event-or-stop-requires
     returns
     (λ c κs. search needs)
     returns-2

@@ -2,8 +2,11 @@ use borrow.Author.Needs.{needs}
 use Rattle.gatherer.proofs.turn.stops.Statement.{statement}
 use Rattle.gatherer.proofs.turn.stops.Tie as tie
 
+returns-2 : tie.Need-returns-2
+returns-2 c = rw (c .choose .ensures, c .before .limited .ensures, c .before .before .before .e .given .1)
+
 returns-3 : tie.Need-returns-3
-returns-3 c = rw (c .choose .ensures, c .before .reaches .ensures, c .before .before .before .e .given .1)
+returns-3 c = rw (c .choose2 .ensures, c .before .reaches .ensures, c .before .before .before .e2 .given .1)
 
 pub stops-spec : {M : Type 1} → statement M
 stops-spec =
@@ -11,9 +14,11 @@ stops-spec =
     (tie.spec
     (λ c. search needs)
     (λ c. search needs)
+    (λ c κs. search needs)
+    (λ c κs. search needs)
     (λ c. search needs)
     (λ c κs. search needs)
     (λ c κs. search needs)
     (λ c. search needs)
-    (λ c. search needs)
+    returns-2
     returns-3)
