@@ -1,2 +1,5 @@
 pub mod Telling
 pub mod Turns
+pub mod Schedules
+pub mod Meaning
+pub mod Whole

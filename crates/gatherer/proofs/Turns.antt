@@ -107,12 +107,12 @@ module _ (period : ℕ) (t : List ℕ) (s : Lines) (pos : 0 < period) where
       hold-moves (omega (arith, eqb-false (s .left) 0 idle)) (stops (s .device .clock) (underWay s))
       (eqb (stops (s .device .clock) (underWay s)) 0) is
 
-  moves : turn period t s .outcome ≡ Nothing → Moves t s (turn period t s .state)
+  pub moves : turn period t s .outcome ≡ Nothing → Moves t s (turn period t s .state)
   unfolding turn
   moves is = moves-by (eqb (s .left) 0) (leb (length t) (s .at)) refl refl is
 
   -- There are fewer turns left than before.
-  fewer : (r : Lines) → Moves t s r → r .left < 2 ^ 32 → turnsLeft t r < turnsLeft t s
+  pub fewer : (r : Lines) → Moves t s r → r .left < 2 ^ 32 → turnsLeft t r < turnsLeft t s
   fewer r (clock same l) small = omega (arith, ap (λ (k : ℕ). (length t - k) * 2 ^ 32) same)
   fewer r (byte past within) small = omega arith
 

@@ -65,3 +65,7 @@ Whole =
 -- So from the start of a trace, on a module fresh from reset.
 abbrev pub FromStart : Type 0
 FromStart = (period : ℕ) (t : List ℕ) → meant period t started .reports ≡ lines period t
+
+pub record Shown : Type 0 where
+  pub whole : Whole
+  pub from-start : FromStart

@@ -6,6 +6,7 @@ ghost use lib.ListN.{length, take, drop};
 ghost use Rattle.gatherer.specs.Gather.{most};
 ghost use Rattle.gatherer.specs.Call.{started, goOn, called, handedIn, Calls};
 
+pub mod claims;
 pub mod line;
 pub mod poll;
 mod turn;
