@@ -344,6 +344,58 @@ bool qsm_plan_accepts(struct qsm_set_points points, uint64_t window, struct qsm_
 uint16_t qsm_plan_writes(struct qsm_queue_plan plan);
 struct qsm_plan_put qsm_plan_write(struct qsm_queue_plan plan, uint16_t number);
 
+/*
+ * Lines gathered from a trace that is replayed with polling put in: on a module fresh from reset, status is read after every `period` clocks
+ * (1 to 65,535) since the start or a reset, and data if RDRF or OR showed. Delivered words, their low 7 bits, make up lines that end with 0A.
+ */
+enum qsm_lines_kind { QSM_LINES_END = 0, QSM_LINES_LINE = 1, QSM_LINES_DROP = 2, QSM_LINES_STOP = 3, QSM_LINES_REFUSED = 4 };
+
+/* The first cause to drop a line: a word with a framing error, a parity error or noise, a 129th character, an overrun. */
+enum qsm_lines_cause {
+    QSM_LINES_FE = 1, QSM_LINES_PF = 2, QSM_LINES_NF = 3, QSM_LINES_LENGTH = 4, QSM_LINES_OR = 5
+};
+
+/* The bytes that a line buffer needs. */
+enum qsm_lines_room { QSM_LINES_ROOM = 128 };
+
+struct qsm_line {
+    uint64_t number; /* from 0 over all lines that ended */
+    uint8_t cause;   /* to drop it, or 0 */
+    uint8_t count;   /* characters so far */
+    uint8_t characters[128];
+};
+
+/* Where a replay stands: a host keeps it from call to call, and need not look inside. */
+struct qsm_lines {
+    size_t at;            /* place in the trace, from its first byte */
+    uint32_t left;        /* clocks left of the hold under way */
+    uint16_t since;       /* clocks since the last poll */
+    uint8_t pins;         /* levels of the hold under way */
+    bool rxd;
+    struct qsm_line line; /* the line being gathered */
+    struct qsm device;
+};
+
+struct qsm_lines_told {
+    struct qsm_lines state;
+    uint64_t number; /* of a line or a drop */
+    uint8_t kind;    /* QSM_LINES_END to QSM_LINES_REFUSED */
+    uint8_t length;  /* characters of a line, at the start of the buffer */
+    uint8_t cause;   /* of a drop */
+    uint8_t refusal; /* of a stop: QSM_UNMODELLED for an access that touches SCSR or SCDR, QSM_UNKNOWN_KIND, QSM_CUT_RECORD, QSM_CLOCK_LIMIT;
+                        of a refused call: QSM_MISSHAPEN for the period, QSM_NO_ROOM for the buffer */
+};
+
+/* At the start of a trace. */
+struct qsm_lines qsm_lines_new(void);
+
+/*
+ * Goes on to the next line, drop, stop or end, from the state that the last call left. A line's characters are put at the start of the buffer;
+ * all other bytes of it stay. At the end, or at a record cut by it, the state can go on with a trace that is longer; `at` counts from the
+ * first byte given.
+ */
+struct qsm_lines_told qsm_lines_next(struct qsm_lines state, const uint8_t *trace, size_t length, uint32_t period, uint8_t *line, size_t room);
+
 #ifdef __cplusplus
 }
 #endif
@@ -405,6 +457,13 @@ QSM_AT(qsm_queue_plan, words, 34, 32);
 QSM_STRUCT(qsm_planned, 8, 80); QSM_AT(qsm_planned, plan, 0, 72); QSM_AT(qsm_planned, refusal, 72, 1);
 QSM_STRUCT(qsm_plan_put, 4, 8); QSM_AT(qsm_plan_put, value, 0, 4); QSM_AT(qsm_plan_put, offset, 4, 2);
 QSM_AT(qsm_plan_put, width, 6, 1);
+QSM_STRUCT(qsm_line, 8, 144); QSM_AT(qsm_line, number, 0, 8); QSM_AT(qsm_line, cause, 8, 1); QSM_AT(qsm_line, count, 9, 1);
+QSM_AT(qsm_line, characters, 10, 128);
+QSM_STRUCT(qsm_lines, 8, 328); QSM_AT(qsm_lines, at, 0, 8); QSM_AT(qsm_lines, left, 8, 4); QSM_AT(qsm_lines, since, 12, 2);
+QSM_AT(qsm_lines, pins, 14, 1); QSM_AT(qsm_lines, rxd, 15, 1); QSM_AT(qsm_lines, line, 16, 144); QSM_AT(qsm_lines, device, 160, 168);
+QSM_STRUCT(qsm_lines_told, 8, 344); QSM_AT(qsm_lines_told, state, 0, 328); QSM_AT(qsm_lines_told, number, 328, 8);
+QSM_AT(qsm_lines_told, kind, 336, 1); QSM_AT(qsm_lines_told, length, 337, 1); QSM_AT(qsm_lines_told, cause, 338, 1);
+QSM_AT(qsm_lines_told, refusal, 339, 1);
 #undef QSM_AT
 #undef QSM_STRUCT
 #undef QSM_IS

@@ -13,6 +13,9 @@ ghost use Rattle.planner.specs.Writes.{writeNo, writesOf};
 ghost use Rattle.settings.specs.Editions.{add, withdraw, get, newest, Changes};
 ghost use Rattle.qsm_c.specs.Play.{Plays};
 ghost use Rattle.qsm_c.specs.Version.{version};
+
+mod lines;
+
 use comparison::Compared;
 use planner::Plan;
 use planner::Planned;

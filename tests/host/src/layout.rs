@@ -45,3 +45,6 @@ layout!(Plan, 8, 72;
 );
 layout!(Planned, 8, 80; plan 0, refusal 72);
 layout!(Put, 4, 8; value 0, offset 4, width 6);
+layout!(Line, 8, 144; number 0, cause 8, count 9, characters 10);
+layout!(Lines, 8, 328; at 0, left 8, since 12, pins 14, rxd 15, line 16, device 160);
+layout!(LinesTold, 8, 344; state 0, number 328, kind 336, length 337, cause 338, refusal 339);

@@ -202,6 +202,32 @@ pub const ANSWER: usize = 18;
 /// The version that these structs are of, `QSM_VERSION` in the header.
 pub const VERSION: u32 = 3;
 
+c_struct!(Line {
+    number: u64,
+    cause: u8,
+    count: u8,
+    characters: [u8; 128],
+});
+
+c_struct!(Lines {
+    at: usize,
+    left: u32,
+    since: u16,
+    pins: u8,
+    rxd: bool,
+    line: Line,
+    device: Module,
+});
+
+c_struct!(LinesTold {
+    state: Lines,
+    number: u64,
+    kind: u8,
+    length: u8,
+    cause: u8,
+    refusal: u8,
+});
+
 extern "C" {
     fn qsm_version() -> u32;
     fn qsm_new() -> Module;
@@ -227,6 +253,15 @@ extern "C" {
     fn qsm_plan_accepts(points: SetPoints, window: u64, plan: Plan) -> bool;
     fn qsm_plan_writes(plan: Plan) -> u16;
     fn qsm_plan_write(plan: Plan, number: u16) -> Put;
+    fn qsm_lines_new() -> Lines;
+    fn qsm_lines_next(
+        state: Lines,
+        trace: *const u8,
+        length: usize,
+        period: u32,
+        line: *mut u8,
+        room: usize,
+    ) -> LinesTold;
 }
 
 impl Default for Module {
@@ -338,6 +373,18 @@ pub fn writes(plan: Plan) -> Vec<Put> {
     (0..count)
         .map(|number| unsafe { qsm_plan_write(plan, number) })
         .collect()
+}
+
+impl Lines {
+    pub fn start() -> Self {
+        // SAFETY: it takes nothing.
+        unsafe { qsm_lines_new() }
+    }
+
+    pub fn next(self, trace: &[u8], period: u32, line: &mut [u8]) -> LinesTold {
+        // SAFETY: slices are what the header asks for.
+        unsafe { qsm_lines_next(self, trace.as_ptr(), trace.len(), period, line.as_mut_ptr(), line.len()) }
+    }
 }
 
 impl From<Answer> for reference::Answer {

@@ -5,6 +5,7 @@
 mod compare;
 mod editions;
 mod figures;
+mod lines;
 mod plan;
 mod plans;
 mod play;
@@ -37,7 +38,7 @@ pub fn number(word: &str) -> Result<usize, String> {
 }
 
 const USAGE: &str =
-    "usage: tools play [ROOM] | compare FILE_A FILE_B ROOM | figures | editions | check | plan | plans REPLAY COUNT SEED";
+    "usage: tools play [ROOM] | compare FILE_A FILE_B ROOM | figures | editions | lines PERIOD ROOM | check | plan | plans REPLAY COUNT SEED";
 
 fn run(words: &[&str]) -> Printed {
     match words {
@@ -48,6 +49,10 @@ fn run(words: &[&str]) -> Printed {
         }
         ["figures"] => figures::figures(),
         ["editions"] => editions::editions(),
+        ["lines", period, room] => {
+            let period = u32::try_from(number(period)?).unwrap_or(u32::MAX);
+            lines::lines(period, number(room)?)
+        }
         ["check"] => plan::check(&text()?),
         ["plan"] => plan::plan(&text()?),
         ["plans", replay, count, seed] => plans::plans(replay, number(count)?, number(seed)?),
