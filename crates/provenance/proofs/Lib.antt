@@ -1,0 +1,14 @@
+pub mod Marked
+pub mod Slots
+pub mod Account
+pub mod Stands
+pub mod Gathering
+pub mod Polls
+pub mod Played
+pub mod Simulated
+pub mod Scheduled
+pub mod Causes
+pub mod Wire
+pub mod Lines
+pub mod Handing
+pub mod Recorded

@@ -1,0 +1,4 @@
+pub mod Happened
+pub mod Segment
+pub mod Claims
+pub mod Witness

@@ -1,0 +1,15 @@
+// Document 02, L8: a line handed over is what came on the wire.
+ghost use mathlib.Core.Bool.{true};
+ghost use mathlib.Core.Path.{_≡_};
+ghost use Rattle.provenance.specs.Claims.{Claims};
+ghost use Rattle.provenance.specs.Witness.{Met};
+
+// For every trace and every period of polls: each line handed over is what came on the wire, whole and undamaged; each that ended is reported
+// once, in the order of its number, a dropped one with its first cause; and a whole one whose 0A is delivered is handed over.
+// And one trace with a quick and with a slow poll: a line handed over, and one dropped.
+// Ruled out: a line with a character lost or damaged handed over; two lines joined; a line told twice or left out; a whole line dropped.
+pub fn provenance() -> bool
+    ensures { λ r. ⌜ (r ≡ true) × Claims × Met ⌝ }
+{
+    true
+}
