@@ -1,0 +1,196 @@
+// A trace replayed piece by piece: each piece is read behind the bytes that wait, and call after call goes on through it.
+ghost use mathlib.Core.Path.{_≡_};
+ghost use lib.ListN.{length};
+use files::message::say_first;
+use files::output::write_first;
+use files::pieces::carry;
+use files::pieces::counted;
+use files::pieces::fill;
+use gatherer::Lines;
+use gatherer::line::Outcome;
+use libc::STDOUT_FILENO;
+use text::line::Line;
+
+// Where a run stands.
+pub struct Run {
+    // Its place in the trace counts from the buffer's first byte.
+    pub state: Lines,
+    // Bytes of the trace before its place.
+    pub place: u64,
+    // Bytes in the buffer.
+    pub total: usize,
+    // The input has ended.
+    pub ended: bool,
+}
+
+pub enum Next {
+    More,
+    Done,
+    Stopped(u8),
+    Refused(u8),
+    NotRead,
+    NotWritten,
+}
+
+pub struct Turned {
+    pub run: Run,
+    pub next: Next,
+}
+
+impl Run {
+    // At the start of a trace, with nothing read.
+    pub fn start() -> Run {
+        Run {
+            state: gatherer::start(),
+            place: 0,
+            total: 0,
+            ended: false,
+        }
+    }
+
+    fn next(self, next: Next) -> Turned {
+        Turned { run: self, next }
+    }
+}
+
+// A line's characters and its newline.
+fn write_line(line: &mut [u8], n: u8) -> bool {
+    let end = n as usize;
+    if end < line.len() {
+        line[end] = 10;
+        return write_first(STDOUT_FILENO, line, end + 1);
+    }
+    false
+}
+
+fn cause_words(line: Line, cause: u8) -> Line {
+    match cause {
+        1 => line.write(b"FE"),
+        2 => line.write(b"PF"),
+        3 => line.write(b"NF"),
+        4 => line.write(b"length"),
+        _ => line.write(b"OR"),
+    }
+}
+
+fn say_drop(number: u64, cause: u8) {
+    let start = Line::empty()
+        .write(b"line ")
+        .decimal(20, number)
+        .write(b" dropped: ");
+    let line = cause_words(start, cause).put(10);
+    let n = line.length;
+    let bytes = line.bytes;
+    say_first(b"lines", &bytes, n);
+}
+
+// What is left of the buffer is carried to its start, and more is read behind it.
+fn refill(fd: i32, run: Run, buf: &mut [u8]) -> Turned {
+    let mut state = run.state;
+    let at = state.at;
+    let have = carry(buf, at, run.total);
+    let f = fill(fd, buf, have, run.ended);
+    state.at = 0;
+    let next = Run {
+        state,
+        place: run.place,
+        total: f.total,
+        ended: f.ended,
+    };
+    if f.failed {
+        return next.next(Next::NotRead);
+    }
+    next.next(Next::More)
+}
+
+// At the end of the buffer, or before a record that its end cuts.
+fn at_end(fd: i32, run: Run, buf: &mut [u8], last: Next) -> Turned {
+    if run.ended {
+        return run.next(last);
+    }
+    refill(fd, run, buf)
+}
+
+fn written(run: Run, line: &mut [u8], n: u8) -> Turned {
+    if write_line(line, n) {
+        run.next(Next::More)
+    } else {
+        run.next(Next::NotWritten)
+    }
+}
+
+fn dropped(run: Run, number: u64, cause: u8) -> Turned {
+    say_drop(number, cause);
+    run.next(Next::More)
+}
+
+fn stopped(fd: i32, run: Run, buf: &mut [u8], why: u8) -> Turned {
+    if why == 6 {
+        return at_end(fd, run, buf, Next::Stopped(why));
+    }
+    run.next(Next::Stopped(why))
+}
+
+// How far a call moved its place.
+fn passed(before: usize, after: usize) -> usize {
+    if before < after { after - before } else { 0 }
+}
+
+// A call on the first bytes of the buffer.
+fn call(s: Lines, buf: &[u8], total: usize, period: u32, line: &mut [u8]) -> gatherer::Turned {
+    if buf.len() < total {
+        return gatherer::go_on(s, buf, period, line);
+    }
+    gatherer::go_on(s, &buf[..total], period, line)
+}
+
+// One call, and what it tells.
+fn turn(fd: i32, run: Run, period: u32, buf: &mut [u8], line: &mut [u8]) -> Turned {
+    let total = run.total;
+    let before = run.state;
+    let went = call(before, buf, total, period, line);
+    let state = went.state;
+    let told = went.outcome;
+    let now = Run {
+        state,
+        place: counted(run.place, passed(before.at, state.at)),
+        total,
+        ended: run.ended,
+    };
+    match told {
+        Outcome::Nothing => now.next(Next::More),
+        Outcome::Handed(_, n) => written(now, line, n),
+        Outcome::Dropped(number, cause) => dropped(now, number, cause),
+        Outcome::Stopped(why) => stopped(fd, now, buf, why),
+        Outcome::Ended => at_end(fd, now, buf, Next::Done),
+        Outcome::Refused(why) => now.next(Next::Refused(why)),
+    }
+}
+
+// Room for a line and its newline.
+fn room() -> [u8; 256]
+    ensures { λ r. ⌜ 256 ≡ length r ⌝ }
+{
+    [0u8; 256]
+}
+
+pub fn replay(fd: i32, period: u32) -> Turned {
+    let mut buf = io::large_buffer();
+    let mut line = room();
+    let mut run = Run::start();
+    let mut turns = u64::MAX;
+    while turns > 0 {
+        let t = turn(fd, run, period, &mut buf, &mut line);
+        let next = t.next;
+        let Next::More = next else {
+            return t;
+        };
+        let after = t.run;
+        run = after;
+        turns -= 1;
+    }
+    Turned {
+        run,
+        next: Next::More,
+    }
+}
