@@ -298,6 +298,12 @@ struct qsm_answer qsm_write(struct qsm *m, bool supervisor, uint8_t width, uint1
 uint8_t qsm_noise(const struct qsm *m);
 
 /*
+ * How long a host can sleep: at these levels of the pins and of RXD, the least number of clocks after which an answer would show other
+ * levels, another mask, level or vector than one now; 0 if no hold, however long, would show that. The module is a copy, and stays as it is.
+ */
+uint32_t qsm_until_change(struct qsm m, uint8_t pins, bool rxd);
+
+/*
  * Plays the records of a trace from the state `m` on and writes their answers, 18 bytes each, to the front of the log. It stops before a
  * record that it can't answer: what was answered before stands, and the log's bytes past the answers are unchanged.
  */

@@ -76,7 +76,9 @@ impl Qspi {
         }
     }
 
-    fn quiet(self, pins: Pins) -> u32
+    // Clocks in which nothing but the count to the next edge or the delay's end changes, as far as a hold can go.
+    // Ruled out: the clock of an edge counted; a mode fault that is due passed over.
+    pub fn quiet(self, pins: Pins) -> u32
         ensures { λ r. ⌜ r ≡ quiet self pins ⌝ }
     {
         self.quiet_if(spe(self.registers.spcr1), self.fault_now(pins))

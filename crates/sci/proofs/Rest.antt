@@ -222,6 +222,10 @@ positive (suc n) h = omega arith
 pub rounds-last : (s : Sci) (x : Bool) → rests s x ≡ true → 0 < 2 * SCBR (s .sccr0)
 rounds-last s x h = positive (SCBR (s .sccr0)) (eqb-false (SCBR (s .sccr0)) 0 (rest s x h .some))
 
+-- So a sample at rest leaves the half as it was, but for the prescaler's count.
+pub rest-sampled : (s : Sci) (x : Bool) → rests s x ≡ true → sampled s x ≡ withCount s 0
+rest-sampled s x h = leaves s x (rest s x h)
+
 pub shortened-less : (n : ℕ) (s : Sci) (x : Bool) → shortened s n x ≤ n
 shortened-less n s x = go (rests s x)
   where

@@ -58,7 +58,8 @@ impl Sci {
     }
 
     // Clocks that change nothing but the prescaler's count, as far as a hold can go.
-    fn quiet(self) -> u32
+    // Ruled out: the clock of a sample counted; a prescaler that stands still taken for one that runs.
+    pub fn quiet(self) -> u32
         ensures { λ r. ⌜ r ≡ quiet self ⌝ }
     {
         if self.active() {
@@ -81,7 +82,8 @@ impl Sci {
     }
 
     // Samples come, and change nothing.
-    fn rests(self, x: bool) -> bool
+    // Ruled out: a word that waits; an idle count short of its limit.
+    pub fn rests(self, x: bool) -> bool
         ensures { λ r. ⌜ r ≡ rests self x ⌝ }
     {
         let receiver = self.receiver;

@@ -11,6 +11,7 @@ mod script;
 mod serial;
 mod shown;
 mod traces;
+mod until;
 mod wild;
 
 use event::Event;
@@ -60,6 +61,7 @@ fn round(script: &mut Script, pair: &mut Pair, totals: &mut Totals) -> Result<()
     }
     pair.readable()?;
     fields::check(&pair.library)?;
+    until::check(&mut script.random, pair)?;
     let refusals = &mut totals.refusals;
     traces::check(&mut script.random, &start, pair, &records, refusals)
 }

@@ -236,6 +236,7 @@ extern "C" {
     fn qsm_read(m: *mut Module, supervisor: bool, width: u8, offset: u16) -> Answer;
     fn qsm_write(m: *mut Module, supervisor: bool, width: u8, offset: u16, value: u32) -> Answer;
     fn qsm_noise(m: *const Module) -> u8;
+    fn qsm_until_change(m: Module, pins: u8, rxd: bool) -> u32;
     fn qsm_play(m: Module, trace: *const u8, length: usize, log: *mut u8, room: usize) -> Played;
     fn qsm_compare(
         first: *const u8,
@@ -302,6 +303,15 @@ impl Module {
     pub fn noise(&self) -> u8 {
         // SAFETY: as said above.
         unsafe { qsm_noise(self) }
+    }
+
+    /// The clocks until an answer shows other pins or another request, or none within the longest hold.
+    pub fn until_change(&self, pins: u8, rxd: bool) -> Option<u32> {
+        // SAFETY: as said above.
+        match unsafe { qsm_until_change(self.clone(), pins, rxd) } {
+            0 => None,
+            clocks => Some(clocks),
+        }
     }
 
     pub fn play(self, trace: &[u8], log: &mut [u8]) -> Played {

@@ -1,0 +1,55 @@
+-- The example computes. Assumes nothing.
+use mathlib.Core.Bool.{Bool, true, false}
+use mathlib.Core.Path.{_≡_, refl, _∙_}
+use Prim.Native.Nat.{ℕ, zero, suc, _+_, _<_}
+use native.Mathlib.Omega.{arith}
+use Rattle.steps.specs.Iterate.{iterate}
+use Rattle.sci.specs.Serial.{clocked}
+use Rattle.sci.specs.Status.{has}
+use Rattle.qspi.specs.Fields.{bitsOf, preDelay, delayAfter}
+use Rattle.qspi.specs.Entry.{mosiAfter, collectedAfter}
+use Rattle.qspi.specs.Registers.{reset, writeSpcr1}
+use Rattle.qspi.specs.Queue.{edge, playClock, startClock, clock, queueClock}
+use Rattle.qsm.specs.State.{resetModule}
+use Rattle.qsm.specs.Map.{decode}
+use Rattle.qsm.specs.Lanes.{inMap, isRestricted}
+use Rattle.qsm.specs.Queue.{peekQueue, putQueue, queueUnmodelled, queueGuarded}
+use Rattle.qsm.specs.Word.{peek, put, unmodelled, guarded}
+use Rattle.qsm.specs.Access.{store, stored}
+use Rattle.qsm.specs.Decision.{admitted, storedBy, decideStored}
+use Rattle.qsm.specs.Pins.{mask, owned, ownLevels, levels}
+use Rattle.qsm.specs.Request.{request}
+use Rattle.qsm.specs.Event.{answerOf, clockModule, clocks, refused, writes, does}
+use Rattle.changes.specs.Change.{differs, untilChange}
+use Rattle.changes.specs.Laws.{started}
+use Rattle.changes.specs.declared.Change.the-variants.{After}
+use Rattle.changes.proofs.First.{found, passes}
+
+abbrev shows : ℕ → Bool
+shows n = differs started 0xFF true n
+
+first : shows 1 ≡ false
+unfolding does writes refused answerOf request mask owned ownLevels levels clocks clockModule iterate store stored storedBy decideStored admitted inMap isRestricted decode peek put unmodelled guarded peekQueue putQueue queueUnmodelled queueGuarded resetModule reset writeSpcr1 clocked has clock queueClock startClock playClock edge bitsOf preDelay delayAfter mosiAfter collectedAfter
+first = refl
+
+second : shows 2 ≡ false
+unfolding does writes refused answerOf request mask owned ownLevels levels clocks clockModule iterate store stored storedBy decideStored admitted inMap isRestricted decode peek put unmodelled guarded peekQueue putQueue queueUnmodelled queueGuarded resetModule reset writeSpcr1 clocked has clock queueClock startClock playClock edge bitsOf preDelay delayAfter mosiAfter collectedAfter
+second = refl
+
+third : shows 3 ≡ false
+unfolding does writes refused answerOf request mask owned ownLevels levels clocks clockModule iterate store stored storedBy decideStored admitted inMap isRestricted decode peek put unmodelled guarded peekQueue putQueue queueUnmodelled queueGuarded resetModule reset writeSpcr1 clocked has clock queueClock startClock playClock edge bitsOf preDelay delayAfter mosiAfter collectedAfter
+third = refl
+
+fourth : shows 4 ≡ true
+unfolding does writes refused answerOf request mask owned ownLevels levels clocks clockModule iterate store stored storedBy decideStored admitted inMap isRestricted decode peek put unmodelled guarded peekQueue putQueue queueUnmodelled queueGuarded resetModule reset writeSpcr1 clocked has clock queueClock startClock playClock edge bitsOf preDelay delayAfter mosiAfter collectedAfter
+fourth = refl
+
+before : (j : ℕ) → j < 3 → shows (1 + j) ≡ false
+before zero less = first
+before (suc zero) less = second
+before (suc (suc zero)) less = third
+before (suc (suc (suc j))) less = absurd (omega arith)
+
+pub met : untilChange started 0xFF true ≡ After 4
+unfolding untilChange
+met = passes shows 3 4294967292 1 before ∙ found shows 4294967291 4 fourth

@@ -1,0 +1,5 @@
+pub mod First
+pub mod Steadily
+pub mod Turns
+pub mod Example
+pub mod Leastly

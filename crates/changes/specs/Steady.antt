@@ -1,0 +1,24 @@
+-- Clocks after which an answer shows what it shows after the first of them. (proofs/Steady shows it of the module.)
+use mathlib.Core.Bool.{Bool, cond}
+use Prim.Native.Nat.{ℕ, max, min}
+use Rattle.steps.specs.Iterate.{iterate}
+use Rattle.sci.specs.Serial.{clocked}
+use Rattle.sci.specs.Quiet.{quiet, rests}
+use Rattle.sci.specs.declared.serial.Sci.{Sci}
+use Rattle.qspi.specs.Queue.{clock}
+use Rattle.qspi.specs.Quiet as queue
+use Rattle.qsm.specs.State.{withSci, withQspi}
+use Rattle.qsm.specs.Event.{pinsOf}
+use Rattle.qsm.specs.declared.state.Module.{Module}
+
+-- n clocks of both halves.
+abbrev pub ahead : ℕ → Bool → Module → Module
+ahead n rxd m =
+    withSci (withQspi m (iterate n (λ q. clock q (pinsOf m)) (m .qspi))) (iterate n (λ s. clocked s rxd) (m .sci))
+
+-- At rest samples change nothing; else none comes in the quiet clocks.
+abbrev pub serialSteady : Sci → Bool → ℕ
+serialSteady s rxd = cond (rests s rxd) 4294967295 (quiet s)
+
+abbrev pub steady : Module → Bool → ℕ
+steady m rxd = max 1 (min (queue.quiet (m .qspi) (pinsOf m)) (serialSteady (m .sci) rxd))
