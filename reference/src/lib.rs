@@ -5,6 +5,7 @@
 //! interrupt request above them. `registers` has the offsets and bits of all three.
 
 mod access;
+mod drivers;
 mod flags;
 mod module;
 mod qspi;
@@ -15,5 +16,6 @@ mod trace;
 mod transmitter;
 
 pub use access::Refusal;
+pub use drivers::{Driver, Drivers};
 pub use module::{Answer, Module};
 pub use trace::{play, Played, ANSWER_LENGTH};

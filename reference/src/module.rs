@@ -137,7 +137,7 @@ impl Module {
 /// Accesses.
 impl Module {
     /// User access to the global registers, or to anything under SUPV.
-    fn blocked(&self, supervisor: bool, offset: u16) -> bool {
+    pub(crate) fn blocked(&self, supervisor: bool, offset: u16) -> bool {
         !supervisor && (offset < 0x08 || self.qsmcr & SUPV != 0)
     }
 
@@ -222,7 +222,7 @@ impl Module {
 
 /// Pins and requests.
 impl Module {
-    fn answer(&self, refusal: u8, value: u32) -> Answer {
+    pub(crate) fn answer(&self, refusal: u8, value: u32) -> Answer {
         let (levels, mask) = self.driven();
         let (level, vector) = self.request();
         Answer {

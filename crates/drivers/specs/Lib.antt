@@ -1,3 +1,4 @@
 pub mod State
 pub mod Reach
 pub mod Event
+pub mod Host

@@ -1,7 +1,7 @@
 -- Document 02, L11: a module that two drivers share.
-use mathlib.Core.Bool.{Bool, _&&_}
+use mathlib.Core.Bool.{Bool, true, false}
 use Prim.Native.Nat.{ℕ}
-use lib.Dec.{eqb, ltb, leb}
+use lib.Dec.{eqb, ltb}
 use Rattle.qsm.specs.State.{resetModule}
 use Rattle.qsm.specs.Map.{from}
 use Rattle.drivers.specs.declared.state.Driver.{Driver}
@@ -16,6 +16,11 @@ other Spindle = Axis
 abbrev pub numberOf : Driver → ℕ
 numberOf Axis = 1
 numberOf Spindle = 2
+
+-- For a host in C: which driver calls.
+abbrev pub driverOf : Bool → Driver
+driverOf false = Axis
+driverOf true = Spindle
 
 -- A driver holds the claim.
 abbrev pub holds : Shared → Driver → Bool

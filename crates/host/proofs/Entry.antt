@@ -1,5 +1,5 @@
--- One walk for every entry of `Shape`: the borrow is opened, the module copied out of its cell and passed to g; the state that g gives is
--- stored over the cell, and the borrow closed at it. No field of the module is looked into. An entry's own proof cites `proved`.
+-- One walk for every entry of `Shape`: the borrow is opened, what is held copied out of its cell and passed to g; what g gives to hold is stored over
+-- the cell, and the borrow closed at it. No field is looked into. An entry's own proof cites `proved`.
 use mathlib.Core.Path.{_≡_, refl, ap, _∙_}
 use Prim.Native.Nat.{ℕ, zero, suc, _+_}
 use mathlib.Core.Option.{some}
@@ -25,7 +25,7 @@ use types.Run.{enter, alloc1, alloc0, params1, pass1, free1, free0}
 use types.Part.{whole, sub, look-in}
 use types.SemTy.{Body}
 use sound.WpLaws.{FmC, fmOf, WpFn-mono}
-use denote.RattleType.{owns}
+use denote.RattleType.{RattleType, owns}
 use denote.Laws.{Is, shows}
 use denote.Memory.{mem}
 use denote.Ref.{RefT, MutRef, ptr-vals, mut-tells}
@@ -42,56 +42,53 @@ use denote.Triple.Entry.{onEntry}
 use denote.Triple.Spec.{Meets, tripleOf}
 use denote.Triple.Table.{entered, cited}
 use denote.Triple.Walked.{says, walkOf, AllGo, goes-ref, Walks, ends-at, walked, walk-meets, hasOf}
-use Rattle.qsm.specs.declared.state.Module.{Module}
-use Rattle.qsm.specs.declared.event.Answer.{Answer}
-use Rattle.qsm.specs.declared.event.Stepped.{Stepped}
-use Rattle.qsm.proofs.state.Module as T
-use Rattle.qsm.proofs.state.Module.Laws as T′
-use Rattle.qsm.proofs.event.Answer as N
-use Rattle.qsm.proofs.event.Answer.Laws as N′
-use Rattle.qsm.proofs.event.Stepped as S
-use Rattle.qsm.proofs.event.Stepped.Laws as S′
 use Rattle.host.proofs.Params.{Param, slots, stays, rows, Passed, spells, machine, values, AreAll, passed-on, are-passed-on}
 use Rattle.host.proofs.Params.{tells-all, last-all, fit-all, owned-all, kept-all, go-all}
-use Rattle.host.proofs.Events.{Kind}
+use Rattle.host.proofs.Structs.{Structs, Kind, rowOf, mirOf, valOf, mirOfBoth}
 use Rattle.host.proofs.Block.{rooms, after-env, found, alloc-all, free-all, pass-all, emptied, from-at}
 use Rattle.host.proofs.Block.{operands-at}
 use Rattle.host.proofs.Shape.{entry, ended, called, stayed, clauses, called-clauses}
 
-abbrev moduleVal : Module → Val
-moduleVal = LL.val T.the-type T′.the-laws
-
-abbrev answerVal : Answer → Val
-answerVal = LL.val N.the-type N′.the-laws
-
-state-relates : (r : Stepped) (vs : List Val) → Is S.the-row r vs → Is T.the-row (r .state) (moduleVal (r .state) ∷ [])
-state-relates r vs g = LL.owed S.the-type S′.the-laws r vs g .0
-
-answer-relates : (r : Stepped) (vs : List Val) → Is S.the-row r vs → Is N.the-row (r .answer) (answerVal (r .answer) ∷ [])
-answer-relates r vs g = LL.owed S.the-type S′.the-laws r vs g .1 .0
-
--- where the module and the answer stand in what g gives
-unfoldable stateAt : ℕ
-stateAt = up (align T′.mir) zero
-
-state-there : fieldOf S′.mir 0 ≡ some (T′.mir, stateAt)
-unfolding stateAt
-state-there = refl
-
-unfoldable answerAt : ℕ
-answerAt = up (align N′.mir) (up (align T′.mir) zero + size T′.mir)
-
-answer-there : fieldOf S′.mir 1 ≡ some (N′.mir, answerAt)
-unfolding answerAt
-answer-there = refl
-
--- the entry's own locals, s and r, after the parameters
-abbrev own : ℕ → ℕ → List (Ty × ℕ)
-own ls lr = (T′.mir, ls) ∷ (S′.mir, lr) ∷ []
-
-module _ (k : Kind) where
+module _ {w : Structs} (k : Kind w) where
   abbrev Ps : List Param
   Ps = k .params
+
+  abbrev Held : Type 0
+  Held = w .held .type .D
+
+  abbrev Both : Type 0
+  Both = w .both .Denot
+
+  abbrev T : RattleType
+  T = rowOf (w .held)
+
+  abbrev N : RattleType
+  N = rowOf (w .answer)
+
+  abbrev heldVal : Held → Val
+  heldVal = valOf (w .held)
+
+  abbrev answerVal : w .answer .type .D → Val
+  answerVal = valOf (w .answer)
+
+  -- where what is held and the answer stand in what g gives
+  unfoldable heldAt : ℕ
+  heldAt = up (align (mirOf (w .held))) zero
+
+  held-there : fieldOf (mirOfBoth w) 0 ≡ some (mirOf (w .held), heldAt)
+  unfolding heldAt
+  held-there = refl
+
+  unfoldable answerAt : ℕ
+  answerAt = up (align (mirOf (w .answer))) (up (align (mirOf (w .held))) zero + size (mirOf (w .held)))
+
+  answer-there : fieldOf (mirOfBoth w) 1 ≡ some (mirOf (w .answer), answerAt)
+  unfolding answerAt
+  answer-there = refl
+
+  -- the entry's own locals, s and r, after the parameters
+  abbrev own : ℕ → ℕ → List (Ty × ℕ)
+  own ls lr = (mirOf (w .held), ls) ∷ (mirOfBoth w, lr) ∷ []
 
   module _ {M : Type 1} (𝓤 : URA M) (H : Heap 𝓤) (A : Atoms 𝓤) where
     -- the contract of the function that is called
@@ -99,7 +96,7 @@ module _ (k : Kind) where
     Called = tripleOf 𝓤 H A (called k .signature) (closing 𝓤 H A (called k) (called-clauses k 𝓤))
 
     module _
-        (W : Given 𝓤 H A) (κ : Lft) (q : Share) (b o : ℕ) (γ : GName) (h : Module) (p : Passed 1 (κ, tt) Ps)
+        (W : Given 𝓤 H A) (κ : Lft) (q : Share) (b o : ℕ) (γ : GName) (h : Held) (p : Passed 1 (κ, tt) Ps)
         (are : AreAll 1 (κ, tt) Ps p) where
       abbrev κs : Lfts 1
       κs = (κ, tt)
@@ -107,7 +104,7 @@ module _ (k : Kind) where
       abbrev on : Passed 0 tt Ps
       on = passed-on 1 0 κs tt Ps p
 
-      abbrev x : RefT Module × Passed 1 κs Ps
+      abbrev x : RefT Held × Passed 1 κs Ps
       x = (record { ptr = (b, o); name = γ; now = h }, p)
 
       abbrev Post : Val → SProp 𝓤
@@ -116,37 +113,37 @@ module _ (k : Kind) where
           ((κs, (q, tt), tt, x, (vptr b o ∷ [], machine 1 κs Ps p)), tt)
 
       abbrev call : Called .Ghost
-      call = ((tt, tt, tt, (h, on), (moduleVal h ∷ [], machine 0 tt Ps on)), tt)
+      call = ((tt, tt, tt, (h, on), (heldVal h ∷ [], machine 0 tt Ps on)), tt)
 
-      precondition : Is T.the-row h (moduleVal h ∷ []) → ent 𝓤 (sem 𝓤 H A ftrue) (Called .pre call)
+      precondition : Is T h (heldVal h ∷ []) → ent 𝓤 (sem 𝓤 H A ftrue) (Called .pre call)
       precondition g =
           qed W (‵ ftrue ∷ []) ∵
           use0 W (‵ (owns (rows 0 tt Ps) on (machine 0 tt Ps on))) (owned-all 0 tt 𝓤 H A W Ps on (are-passed-on 1 0 κs tt Ps p are)) $
-          owned ! T.the-row (Is T.the-row) (LL.makes T.the-type T′.the-plain 𝓤 H A) h _ g $ fjoin ! $ nothing ! $ join ! $ frame ! $ done !
+          owned ! T (Is T) (LL.makes (w .held .type) (w .held .plain) 𝓤 H A) h _ g $ fjoin ! $ nothing ! $ join ! $ frame ! $ done !
 
       result-known :
-          (r : Stepped) →
+          (r : Both) →
           ent 𝓤 (ensured 𝓤 H A (called k) (called-clauses k 𝓤) tt (h, on) tt r) (fact 𝓤 (r ≡ k .does h on))
       result-known r = exE 𝓤 _ (λ ws. snd∗ 𝓤 (sem 𝓤 H A (lasts (called k) tt (h, on) ws)) (fact 𝓤 (r ≡ k .does h on)))
 
       postcondition :
-          (r : Stepped) → r ≡ k .does h on → Is N.the-row (r .answer) (answerVal (r .answer) ∷ []) →
+          (r : Both) → r ≡ k .does h on → Is N (w .answerOf r) (answerVal (w .answerOf r) ∷ []) →
           ent 𝓤
-          (sep 𝓤 (A .obs γ (T.the-row .coded .code (r .state))) (sep 𝓤 (A .bor κ (Body (mem T.the-row) b o γ)) (A .lft κ q)))
-          (Post (answerVal (r .answer)))
+          (sep 𝓤 (A .obs γ (T .coded .code (w .heldOf r))) (sep 𝓤 (A .bor κ (Body (mem T) b o γ)) (A .lft κ q)))
+          (Post (answerVal (w .answerOf r)))
       postcondition r is g =
-          qed W (‵ (fobs γ (T.the-row .coded .code (r .state))) ∷ ‵ (fbor κ (Body (mem T.the-row) b o γ)) ∷ ‵ (flft κ q) ∷ []) ∵
+          qed W (‵ (fobs γ (T .coded .code (w .heldOf r))) ∷ ‵ (fbor κ (Body (mem T) b o γ)) ∷ ‵ (flft κ q) ∷ []) ∵
           suffices ! _
           (ends-at 𝓤 H A (ended k) (stayed k) (clauses k 𝓤) W
-          ((κs, (q, tt), tt, x, (vptr b o ∷ [], machine 1 κs Ps p)), tt) (answerVal (r .answer)) (r .answer)
-          (r .state, last-all 1 κs Ps p) (tt, fit-all 1 κs Ps p)) $
-          says ! (ap (λ (s : Stepped). s .state) (is ∙ k .is-step h on), ap (λ (s : Stepped). s .answer) (is ∙ k .is-step h on)) $
+          ((κs, (q, tt), tt, x, (vptr b o ∷ [], machine 1 κs Ps p)), tt) (answerVal (w .answerOf r)) (w .answerOf r)
+          (w .heldOf r, last-all 1 κs Ps p) (tt, fit-all 1 κs Ps p)) $
+          says ! (ap (w .heldOf) (is ∙ k .is-step h on), ap (w .answerOf) (is ∙ k .is-step h on)) $
           nothing ! $ move ! (3 ∷ 0 ∷ []) $ join ! $ frame ! $
           feqI ! (List Val) (vptr b o ∷ []) (vptr b o ∷ []) refl $ fjoin3 ! $
           use0 W (‵ (hasOf κs (slots 1 Ps) (all yes (slots 1 Ps)) (stays 1 Ps) p (last-all 1 κs Ps p) (machine 1 κs Ps p)))
           (kept-all 1 κs 𝓤 H A W Ps p are) $
           move ! (1 ∷ 0 ∷ []) $ fjoin ! $
-          owned ! N.the-row (Is N.the-row) (LL.makes N.the-type N′.the-plain 𝓤 H A) (r .answer) _ g $ move ! (1 ∷ 0 ∷ []) $ done !
+          owned ! N (Is N) (LL.makes (w .answer .type) (w .answer .plain) 𝓤 H A) (w .answerOf r) _ g $ move ! (1 ∷ 0 ∷ []) $ done !
 
       module _ (f : Name) (C : Calls 𝓤 H) (Λ : Loops 𝓤 H) (fm : FmC 𝓤 H (W .laws) C) (known : Triple 𝓤 (C f) Called) where
         walk :
@@ -155,7 +152,7 @@ module _ (k : Kind) where
         walk =
             qed W
             ((‵ (flft κ q) ⊛ ‵ ftrue)
-            ∷ ‵ (owns (MutRef (named 0) κ T.the-row ∷ rows 1 κs Ps) x (vptr b o ∷ [], machine 1 κs Ps p)) ∷ []) ∵
+            ∷ ‵ (owns (MutRef (named 0) κ T ∷ rows 1 κs Ps) x (vptr b o ∷ [], machine 1 κs Ps p)) ∷ []) ∵
             split ! $ move ! (2 ∷ []) $ fsplit ! $ fsplit3 ! $ keep ! (1 ∷ 2 ∷ 4 ∷ []) $
             -- the context: observation, borrow, lifetime token
             enter ! C Λ (entry k f) (vptr b o ∷ values 1 κs Ps p) _ $
@@ -163,49 +160,49 @@ module _ (k : Kind) where
             pass1 ! (init ! 5 refl (tt, tt)) $ move ! (4 ∷ []) $
             pass-all ! 1 κs Ps at p are (own ls lr) $
             move ! (9 ∷ 10 ∷ 11 ∷ []) $
-            opens ! tt T.the-row {h = h} b o (λ vs.
-            spelt ! T.the-row (Is T.the-row) (shows 𝓤 H A T.the-row) (LL.vals T.the-type T′.the-laws)
-            (LL.tells T.the-type T′.the-laws) fullShare h vs b o $
-            move ! (1 ∷ []) $ peeks ! T.the-row (Is T.the-row) (shows 𝓤 H A T.the-row) h (moduleVal h ∷ []) (λ g. move ! (1 ∷ 0 ∷ []) $
-            -- 0 the module's cell, 1 what it owns, 2 the open borrow, 3 and 4 its observation and authority, 5 the parameters, then the locals:
+            opens ! tt T {h = h} b o (λ vs.
+            spelt ! T (Is T) (shows 𝓤 H A T) (LL.vals (w .held .type) (w .held .laws))
+            (LL.tells (w .held .type) (w .held .laws)) fullShare h vs b o $
+            move ! (1 ∷ []) $ peeks ! T (Is T) (shows 𝓤 H A T) h (heldVal h ∷ []) (λ g. move ! (1 ∷ 0 ∷ []) $
+            -- 0 the cell of what is held, 1 what it owns, 2 the open borrow, 3 and 4 its observation and authority, 5 the parameters, then the locals:
             -- 6 r, 8 s, 10 m, 12 the answer, each with its end of life after it
             assigns ! (of-opd ! (load ! (from ! (hop ! (look ! 10 refl) (stop !))) (look-raw ! 0 refl)))
-            (from-at ! (T′.mir, ls) (after-env Ps at (own ls lr) 0 (noLocal 𝓤 H)) (stop !))
-            (init ! 8 refl (LL.lawful T.the-type T′.the-laws 𝓤 H A W .typed h _ g .0)) $
+            (from-at ! (mirOf (w .held), ls) (after-env Ps at (own ls lr) 0 (noLocal 𝓤 H)) (stop !))
+            (init ! 8 refl (LL.lawful (w .held .type) (w .held .laws) 𝓤 H A W .typed h _ g .0)) $
             nothing ! $ use1 W (raw (Called .pre call)) (precondition g) $
             calls-at ! fm Called known call
             (and-then !
-            (load ! (from-at ! (T′.mir, ls) (after-env Ps at (own ls lr) 0 (noLocal 𝓤 H)) (stop !)) (look ! 9 refl))
+            (load ! (from-at ! (mirOf (w .held), ls) (after-env Ps at (own ls lr) 0 (noLocal 𝓤 H)) (stop !)) (look ! 9 refl))
             (operands-at ! 6 1 0 κs tt 2 Ps at p (found Ps at (own ls lr) _ _ (noLocal 𝓤 H)) refl)) (λ v.
             use1 W
-            (later (some (λ (r : Stepped).
-            (‵ ftrue ⊛ ‵ (S.the-row .own r (v ∷ []))) ⊛ raw (ensured 𝓤 H A (called k) (called-clauses k 𝓤) tt (h, on) tt r)))) (id⊢ 𝓤 _) $
+            (later (some (λ (r : Both).
+            (‵ ftrue ⊛ ‵ (w .both .own r (v ∷ []))) ⊛ raw (ensured 𝓤 H A (called k) (called-clauses k 𝓤) tt (h, on) tt r)))) (id⊢ 𝓤 _) $
             await ! tt $ pick ! (λ r.
             split ! $ move ! (1 ∷ []) $ use1 W (raw (fact 𝓤 (r ≡ k .does h on))) (result-known r) $
             heard ! (r ≡ k .does h on) (λ is. split ! $ drop ! $
-            peeks ! S.the-row (Is S.the-row) (shows 𝓤 H A S.the-row) r (v ∷ []) (λ gv.
-            land ! (from-at ! (S′.mir, lr) (after-env Ps at (own ls lr) 1 (noLocal 𝓤 H)) (stop !))
-            (init ! 7 refl (LL.lawful S.the-type S′.the-laws 𝓤 H A W .typed r _ gv .0)) $
-            rewrite ! 7 (λ (u : Val). ‵ (fat fullShare S′.mir lr 0 u)) (ap only (LL.tells S.the-type S′.the-laws r (v ∷ []) gv)) refl $
+            peeks ! (w .both) (Is (w .both)) (shows 𝓤 H A (w .both)) r (v ∷ []) (λ gv.
+            land ! (from-at ! (mirOfBoth w, lr) (after-env Ps at (own ls lr) 1 (noLocal 𝓤 H)) (stop !))
+            (init ! 7 refl (w .typed 𝓤 H A W r _ gv)) $
+            rewrite ! 7 (λ (u : Val). ‵ (fat fullShare (mirOfBoth w) lr 0 u)) (ap only (w .tells r (v ∷ []) gv)) refl $
             -- the same, with what the result owns before it
             assigns !
-            (of-opd ! (load ! (from-at ! (S′.mir, lr) (after-env Ps at (own ls lr) 1 (noLocal 𝓤 H)) (fld ! {d = stateAt} state-there (stop !)))
-            (look-in ! 7 {o = zero + stateAt} (sub ! {o = zero} 0 {d = stateAt} state-there (whole !)))))
+            (of-opd ! (load ! (from-at ! (mirOfBoth w, lr) (after-env Ps at (own ls lr) 1 (noLocal 𝓤 H)) (fld ! {d = heldAt} held-there (stop !)))
+            (look-in ! 7 {o = zero + heldAt} (sub ! {o = zero} 0 {d = heldAt} held-there (whole !)))))
             (from ! (hop ! (look ! 11 refl) (stop !)))
-            (store-raw ! 1 refl (LL.lawful T.the-type T′.the-laws 𝓤 H A W .typed (r .state) _ (state-relates r _ gv) .0)) $
+            (store-raw ! 1 refl (LL.lawful (w .held .type) (w .held .laws) 𝓤 H A W .typed (w .heldOf r) _ (w .held-relates r _ gv) .0)) $
             assigns !
-            (of-opd ! (load ! (from-at ! (S′.mir, lr) (after-env Ps at (own ls lr) 1 (noLocal 𝓤 H)) (fld ! {d = answerAt} answer-there (stop !)))
+            (of-opd ! (load ! (from-at ! (mirOfBoth w, lr) (after-env Ps at (own ls lr) 1 (noLocal 𝓤 H)) (fld ! {d = answerAt} answer-there (stop !)))
             (look-in ! 7 {o = zero + answerAt} (sub ! {o = zero} 1 {d = answerAt} answer-there (whole !)))))
-            (from ! (stop !)) (init ! 13 refl (LL.lawful N.the-type N′.the-laws 𝓤 H A W .typed (r .answer) _ (answer-relates r _ gv) .0)) $
+            (from ! (stop !)) (init ! 13 refl (LL.lawful (w .answer .type) (w .answer .laws) 𝓤 H A W .typed (w .answerOf r) _ (w .answer-relates r _ gv) .0)) $
             drop ! $ move ! (1 ∷ []) $ drop ! $
-            owned ! T.the-row (Is T.the-row) (LL.makes T.the-type T′.the-plain 𝓤 H A) (r .state) _ (state-relates r _ gv) $ move ! (1 ∷ 0 ∷ []) $
-            closes ! tt T.the-row (r .state) (moduleVal (r .state) ∷ []) b o $
+            owned ! T (Is T) (LL.makes (w .held .type) (w .held .plain) 𝓤 H A) (w .heldOf r) _ (w .held-relates r _ gv) $ move ! (1 ∷ 0 ∷ []) $
+            closes ! tt T (w .heldOf r) (heldVal (w .heldOf r) ∷ []) b o $
             -- the borrow is closed: 0 observation, 1 borrow, 2 token, 3 the parameters, 4 the locals
             returns ! (look ! 10 refl) $ forget ! 4 refl $ forget ! 6 refl $ forget ! 8 refl $ forget ! 10 refl $
             move ! (3 ∷ []) $ use1 W (‵ (rooms Ps at)) (emptied 𝓤 H A W 1 κs Ps at p) $
             move ! (10 ∷ 11 ∷ []) $ free1 ! $ move ! (8 ∷ 9 ∷ []) $ free1 ! $ free-all ! Ps at $
             move ! (5 ∷ 6 ∷ []) $ free1 ! $ move ! (3 ∷ 4 ∷ []) $ free1 ! $ free0 ! $
-            by ! (postcondition r is (answer-relates r _ gv)))))))))))))
+            by ! (postcondition r is (w .answer-relates r _ gv)))))))))))))
 
     module _ (W : Given 𝓤 H A) (f : Name) where
       walks :
@@ -213,13 +210,13 @@ module _ (k : Kind) where
           Walks 𝓤 H A (ended k) (stayed k) (WpFn 𝓤 H C Λ (entry k f)) (clauses k 𝓤)
       walks C Λ fm known =
           walked 𝓤 H A (ended k) (stayed k) (clauses k 𝓤) (WpFn 𝓤 H C Λ (entry k f)) (λ κs. (ptr-vals, spells 1 κs Ps))
-          (λ κs. (mut-tells (named 0) (κs .0) T.the-row, tells-all 1 κs Ps))
+          (λ κs. (mut-tells (named 0) (κs .0) T, tells-all 1 κs Ps))
           (λ κs qs bounds a _ are.
           via 𝓤 _ (fst∗ 𝓤 _ (emp 𝓤))
           (walk W (κs .0) (qs .0) (a .0 .ptr .0) (a .0 .ptr .1) (a .0 .name) (a .0 .now) (a .1) (are .1) f C Λ fm known))
 
       all-go : AllGo 𝓤 H A W 1 (ended k .signature .params) (ended k .kept) (stayed k)
-      all-go = (goes-ref 𝓤 H A W 1 0 tt (plain (λ _. T.the-row)), go-all 𝓤 H A W 1 Ps)
+      all-go = (goes-ref 𝓤 H A W 1 0 tt (plain (λ _. T)), go-all 𝓤 H A W 1 Ps)
 
       pub meets :
           (𝓣 : Tables 𝓤 H) → Triple 𝓤 (𝓣 .C f) Called →
@@ -230,7 +227,7 @@ module _ (k : Kind) where
 
 -- The same, of the entry `name` in a table of functions γ, in which f is the function that it calls.
 pub proved :
-    (k : Kind) {M : Type 1} (𝓤 : URA M) (H : Heap 𝓤) (𝓜 : Model 𝓤 H) (𝓖 : GhostRules 𝓤 H) (𝓡 : Running 𝓤 H 𝓜) (γ : Env) (name f : Name)
+    {w : Structs} (k : Kind w) {M : Type 1} (𝓤 : URA M) (H : Heap 𝓤) (𝓜 : Model 𝓤 H) (𝓖 : GhostRules 𝓤 H) (𝓡 : Running 𝓤 H 𝓜) (γ : Env) (name f : Name)
     (r : Routine) → Closed 𝓤 H (tables 𝓤 H 𝓜 𝓡 γ .C) (tables 𝓤 H 𝓜 𝓡 γ .Λ) name (entry k f) → γ f ≡ r →
     Triple 𝓤 (𝓡 .run r) (Called k 𝓤 H (𝓖 .A)) →
     Triple 𝓤 (tables 𝓤 H 𝓜 𝓡 γ .C name)

@@ -5,21 +5,39 @@ use mathlib.Core.List.{List, [], _∷_}
 use Prim.Native.Nat.{ℕ}
 use mir.Syntax.{w8, w16, w32}
 use denote.Enum.Laws as EL
+use denote.Struct.Laws as LL
 use Rattle.qsm.specs.Event.{answered, resets, holds, reads, writes, does, step}
 use Rattle.qsm.specs.declared.state.Module.{Module}
 use Rattle.qsm.specs.declared.event.Event.{Event}
 use Rattle.qsm.specs.declared.event.Event.the-variants.{Reset, Hold}
 use Rattle.qsm.specs.declared.event.Stepped.{Stepped}
+use Rattle.qsm.proofs.state.Module as T
+use Rattle.qsm.proofs.state.Module.Laws as T′
+use Rattle.qsm.proofs.event.Answer as N
+use Rattle.qsm.proofs.event.Answer.Laws as N′
+use Rattle.qsm.proofs.event.Stepped as S
+use Rattle.qsm.proofs.event.Stepped.Laws as S′
 use Rattle.qsm.proofs.event.Event as E
 use Rattle.qsm.proofs.event.Event.Laws as E′
 use Rattle.host.specs.Host.{readEvent, writeEvent}
-use Rattle.host.proofs.Params.{Param, Passed, number, truth}
+use Rattle.host.proofs.Params.{Param, number, truth}
+use Rattle.host.proofs.Structs.{Structs, Kind}
 
-pub record Kind : Type 3 where
-  pub params : List Param
-  pub does : Module → Passed 0 tt params → Stepped
-  pub event : Passed 0 tt params → Event
-  pub is-step : (m : Module) (p : Passed 0 tt params) → does m p ≡ step m (event p)
+-- The module, an answer, and both.
+abbrev pub hosted : Structs
+hosted =
+    record {
+      held = record { type = T.the-type; laws = T′.the-laws; plain = T′.the-plain };
+      answer = record { type = N.the-type; laws = N′.the-laws; plain = N′.the-plain };
+      both = S.the-row;
+      name = S.the-type .name;
+      heldOf = λ (r : Stepped). r .state;
+      answerOf = λ (r : Stepped). r .answer;
+      tells = LL.tells S.the-type S′.the-laws;
+      typed = λ 𝓤 H A W r v g. LL.lawful S.the-type S′.the-laws 𝓤 H A W .typed r _ g .0;
+      held-relates = λ r vs g. LL.owed S.the-type S′.the-laws r vs g .0;
+      answer-relates = λ r vs g. LL.owed S.the-type S′.the-laws r vs g .1 .0;
+    }
 
 -- an event itself, as one parameter
 abbrev the-event : Param
@@ -35,8 +53,8 @@ the-event =
       silent = λ e f. refl;
     }
 
-abbrev pub of-event : Kind
-of-event = record { params = the-event ∷ []; does = λ m p. step m (p .0); event = λ p. p .0; is-step = λ m p. refl }
+abbrev pub of-event : Kind hosted
+of-event = record { params = the-event ∷ []; does = λ m p. step m (p .0); steps = λ m p. step m (p .0); is-step = λ m p. refl }
 
 pub reset-steps : (m : Module) → answered resets ≡ step m Reset
 unfolding step does
@@ -58,32 +76,32 @@ pub write-steps :
 unfolding step does
 write-steps m supervisor width offset value = refl
 
-abbrev pub of-reset : Kind
-of-reset = record { params = []; does = λ m p. answered resets; event = λ p. Reset; is-step = λ m p. reset-steps m }
+abbrev pub of-reset : Kind hosted
+of-reset = record { params = []; does = λ m p. answered resets; steps = λ m p. step m Reset; is-step = λ m p. reset-steps m }
 
-abbrev pub of-hold : Kind
+abbrev pub of-hold : Kind hosted
 of-hold =
     record {
       params = number w8 ∷ truth ∷ number w32 ∷ [];
       does = λ m p. answered (holds m (p .0) (p .1 .0) (p .1 .1 .0));
-      event = λ p. Hold (p .0) (p .1 .0) (p .1 .1 .0);
+      steps = λ m p. step m (Hold (p .0) (p .1 .0) (p .1 .1 .0));
       is-step = λ m p. hold-steps m (p .0) (p .1 .0) (p .1 .1 .0);
     }
 
-abbrev pub of-read : Kind
+abbrev pub of-read : Kind hosted
 of-read =
     record {
       params = truth ∷ number w8 ∷ number w16 ∷ [];
       does = λ m p. answered (reads m (p .0) (p .1 .0) (p .1 .1 .0));
-      event = λ p. readEvent (p .0) (p .1 .0) (p .1 .1 .0);
+      steps = λ m p. step m (readEvent (p .0) (p .1 .0) (p .1 .1 .0));
       is-step = λ m p. read-steps m (p .0) (p .1 .0) (p .1 .1 .0);
     }
 
-abbrev pub of-write : Kind
+abbrev pub of-write : Kind hosted
 of-write =
     record {
       params = truth ∷ number w8 ∷ number w16 ∷ number w32 ∷ [];
       does = λ m p. answered (writes m (p .0) (p .1 .0) (p .1 .1 .0) (p .1 .1 .1 .0));
-      event = λ p. writeEvent (p .0) (p .1 .0) (p .1 .1 .0) (p .1 .1 .1 .0);
+      steps = λ m p. step m (writeEvent (p .0) (p .1 .0) (p .1 .1 .0) (p .1 .1 .1 .0));
       is-step = λ m p. write-steps m (p .0) (p .1 .0) (p .1 .1 .0) (p .1 .1 .1 .0);
     }
