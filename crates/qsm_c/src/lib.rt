@@ -1,5 +1,5 @@
 // The C boundary: a module behind a pointer, which the host keeps, the playing of a trace, the comparing of two logs, the keeping of
-// editions, and plans of the queue. `include/qsm.h` declares it.
+// editions, plans of the queue, and (`shared`) a module that two drivers share. `include/qsm.h` declares it.
 ghost use mathlib.Core.Path.{_≡_};
 ghost use lib.ListN.{length};
 ghost use Rattle.qsm.specs.State.{resetModule};
@@ -15,6 +15,8 @@ ghost use Rattle.qsm_c.specs.Play.{Plays};
 ghost use Rattle.qsm_c.specs.Version.{version};
 
 mod lines;
+
+mod shared;
 
 use comparison::Compared;
 use planner::Plan;
