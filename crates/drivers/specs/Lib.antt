@@ -2,3 +2,4 @@ pub mod State
 pub mod Reach
 pub mod Event
 pub mod Host
+pub mod Laws

@@ -9,6 +9,7 @@ mod pair;
 mod queue;
 mod script;
 mod serial;
+mod sharing;
 mod shown;
 mod traces;
 mod until;
@@ -107,6 +108,16 @@ fn main() -> ExitCode {
     let mut totals = Totals::default();
     if !seeds.iter().all(|&seed| run(seed, &mut totals)) {
         return ExitCode::FAILURE;
+    }
+    match sharing::run(seeds[0]) {
+        Ok(events) => println!("two drivers: {events} events, alike"),
+        Err(difference) => {
+            println!("two drivers: they differ");
+            println!("  {}", difference.what);
+            println!("  library   {}", difference.library);
+            println!("  reference {}", difference.reference);
+            return ExitCode::FAILURE;
+        }
     }
     let times = REFUSALS.map(|number| totals.refusals[number]);
     println!("refusals 1 to 7 and 10: {times:?} times");

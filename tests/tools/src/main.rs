@@ -3,6 +3,7 @@
 //! usage: tools COMMAND [ARGUMENT..]
 
 mod compare;
+mod drivers;
 mod editions;
 mod figures;
 mod lines;
@@ -39,6 +40,7 @@ pub fn number(word: &str) -> Result<usize, String> {
 
 const USAGE: &str =
     "usage: tools play [ROOM] | compare FILE_A FILE_B ROOM | figures | editions | lines PERIOD ROOM | check | plan | plans REPLAY COUNT SEED";
+    "usage: tools play [ROOM] | compare FILE_A FILE_B ROOM | figures | editions | drivers | check | plan | plans REPLAY COUNT SEED";
 
 fn run(words: &[&str]) -> Printed {
     match words {
@@ -53,6 +55,7 @@ fn run(words: &[&str]) -> Printed {
             let period = u32::try_from(number(period)?).unwrap_or(u32::MAX);
             lines::lines(period, number(room)?)
         }
+        ["drivers"] => drivers::drivers(&text()?),
         ["check"] => plan::check(&text()?),
         ["plan"] => plan::plan(&text()?),
         ["plans", replay, count, seed] => plans::plans(replay, number(count)?, number(seed)?),
