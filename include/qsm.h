@@ -1,6 +1,6 @@
 /*
  * Motorola's queued serial module (QSM), as a struct that a host keeps and changes by six functions; a tool for its logs, qsm_compare; register settings
- * by edition, qsm_editions_add and three more; and plans of its queue, qsm_plan.
+ * by edition, qsm_editions_add and three more; plans of its queue, qsm_plan; and a module that two drivers share, qsm_drivers_new and eight more.
  *
  * For C11 and C++11 on x86-64. The archive is made by `rt staticlib qsm_c`; link target/staticlib/libqsm_c.a.
  *
@@ -13,6 +13,7 @@
  * Every call is answered, whatever the numbers in it: nothing else is asked of the caller than this.
  *   - A `struct qsm *` points to one valid module, which nobody else uses during the call. Valid is what qsm_new gave, a copy of it
  *     (assignment or memcpy: a saved state is a copy), and what these functions made of it. Never null.
+ *   - A `struct qsm_drivers *` likewise, from qsm_drivers_new.
  *   - `trace` points to `length` bytes, `log` to `room` bytes, and the two do not overlap. Never null, also where there are 0 bytes.
  *   - `first` and `second` point to so many bytes and may overlap, `list` to `room` numbers that overlap neither. Never null either.
  *   - `buffer` points to `length` bytes, whatever they are; `used` may be any number. Never null either.
@@ -43,6 +44,7 @@ enum qsm_refusal {
                              editions: the used length cuts a record or passes the buffer's end */
     QSM_NO_ROOM = 7,      /* trace: fewer than 18 bytes left of the log; compare: the list is too short; editions: 64 records, or no room */
     QSM_NO_EDITION = 8,   /* editions: one to add that is not above the last, one to withdraw or to get that is not there */
+    QSM_NOT_YOURS = 9,    /* two drivers: bytes, a claim or a write that the driver hasn't; a first reset with no split from 1 to 15 */
     QSM_CLOCK_LIMIT = 10, /* a hold, also in a trace: the clocks since reset would pass 2^64 - 1 */
     QSM_NO_PLAN = 11      /* plan: there is none for these set-points in this window */
 };
@@ -401,6 +403,34 @@ struct qsm_lines qsm_lines_new(void);
  * first byte given.
  */
 struct qsm_lines_told qsm_lines_next(struct qsm_lines state, const uint8_t *trace, size_t length, uint32_t period, uint8_t *line, size_t room);
+ * A module whose queue two drivers share, the axis driver and the spindle driver. The host keeps the struct, resets and holds it and may access all of the
+ * module; a driver's own accesses go through qsm_drivers_read and qsm_drivers_write, with `spindle` true for the spindle driver. The first reset fixes the
+ * split, from 1 to 15: the axis driver owns entries 0 to split - 1, the spindle driver the rest to 15. Later resets keep it, whatever they name, and end a claim.
+ *
+ * A driver reaches its own entries' words and command bytes and, while it holds the claim, SPCR1 (changing SPE alone), SPCR2, SPCR3 and SPSR. What it writes
+ * to SPCR2 needs both pointers in its range, NEWQP not above ENDQP, WRTO set if WREN is, and while SPE is set both bytes at once; to set SPE, SPCR2 must be so
+ * already. Anything else is QSM_NOT_YOURS, after QSM_MISSHAPEN, QSM_UNMAPPED and privilege and before QSM_UNMODELLED, and changes nothing: so are a claim while
+ * the other driver holds it, a release by one that doesn't hold it or with SPE set, and all that a driver does before the first reset.
+ */
+struct qsm_drivers {
+    struct qsm qsm;
+    uint8_t split;  /* the spindle driver's first entry; 0 before the first reset */
+    uint8_t holder; /* who holds the claim: 1 the axis driver, 2 the spindle driver, 0 nobody */
+};
+
+struct qsm_drivers qsm_drivers_new(void);
+
+/* The host's events. */
+struct qsm_answer qsm_drivers_reset(struct qsm_drivers *d, uint8_t split);
+struct qsm_answer qsm_drivers_hold(struct qsm_drivers *d, uint8_t pins, bool rxd, uint32_t clocks);
+struct qsm_answer qsm_drivers_host_read(struct qsm_drivers *d, bool supervisor, uint8_t width, uint16_t offset);
+struct qsm_answer qsm_drivers_host_write(struct qsm_drivers *d, bool supervisor, uint8_t width, uint16_t offset, uint32_t value);
+
+/* A driver's. */
+struct qsm_answer qsm_drivers_read(struct qsm_drivers *d, bool spindle, bool supervisor, uint8_t width, uint16_t offset);
+struct qsm_answer qsm_drivers_write(struct qsm_drivers *d, bool spindle, bool supervisor, uint8_t width, uint16_t offset, uint32_t value);
+struct qsm_answer qsm_drivers_claim(struct qsm_drivers *d, bool spindle);
+struct qsm_answer qsm_drivers_release(struct qsm_drivers *d, bool spindle);
 
 #ifdef __cplusplus
 }
@@ -470,6 +500,8 @@ QSM_AT(qsm_lines, pins, 14, 1); QSM_AT(qsm_lines, rxd, 15, 1); QSM_AT(qsm_lines,
 QSM_STRUCT(qsm_lines_told, 8, 344); QSM_AT(qsm_lines_told, state, 0, 328); QSM_AT(qsm_lines_told, number, 328, 8);
 QSM_AT(qsm_lines_told, kind, 336, 1); QSM_AT(qsm_lines_told, length, 337, 1); QSM_AT(qsm_lines_told, cause, 338, 1);
 QSM_AT(qsm_lines_told, refusal, 339, 1);
+QSM_STRUCT(qsm_drivers, 8, 176); QSM_AT(qsm_drivers, qsm, 0, 168); QSM_AT(qsm_drivers, split, 168, 1);
+QSM_AT(qsm_drivers, holder, 169, 1);
 #undef QSM_AT
 #undef QSM_STRUCT
 #undef QSM_IS

@@ -1,5 +1,6 @@
 //! The layout that `include/qsm.h` asserts, asserted of the declarations in Rust.
 
+use crate::drivers::Drivers;
 use crate::qsm::*;
 use std::mem::{align_of, offset_of, size_of};
 
@@ -48,3 +49,4 @@ layout!(Put, 4, 8; value 0, offset 4, width 6);
 layout!(Line, 8, 144; number 0, cause 8, count 9, characters 10);
 layout!(Lines, 8, 328; at 0, left 8, since 12, pins 14, rxd 15, line 16, device 160);
 layout!(LinesTold, 8, 344; state 0, number 328, kind 336, length 337, cause 338, refusal 339);
+layout!(Drivers, 8, 176; qsm 0, split 168, holder 169);
