@@ -133,6 +133,7 @@ twice d who h k =
 pub laws : Laws
 laws =
     record {
+      fitting = λ s who w. refl;
       exactly = exactly;
       unchanged = unchanged;
       demand2 = demand2;

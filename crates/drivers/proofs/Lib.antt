@@ -4,3 +4,4 @@ pub mod Below
 pub mod Reached
 pub mod Refusing
 pub mod Lawful
+pub mod Witness

@@ -2,7 +2,7 @@
 use mathlib.Core.Path.{_≡_}
 use mathlib.Core.Bool.{Bool, true, false, cond, not, _&&_, _||_}
 use Prim.Native.Nat.{ℕ, zero, suc, _+_, _-_, _/_, _%_, _^_}
-use lib.Dec.{eqb}
+use lib.Dec.{eqb, leb}
 use Rattle.steps.specs.Bits.{bit, merge}
 use Rattle.qsm.specs.Map.{from}
 use Rattle.qsm.specs.Lanes.{upperLane, lowerLane, lined}
@@ -90,6 +90,13 @@ nine d (Drive who a) = admits (d .qsm) a && (not (begun d) || outside d who a)
 nine d (Claim who) = not (begun d) || holds d (other who)
 nine d (Release who) = not (begun d) || (not (holds d who) || bit 15 (SPCR1 d))
 
+-- SPCR2 as it has to be, by its bits: NEWQP (3:0) and ENDQP (11:8) in the driver's range, NEWQP not above ENDQP, WRTO (13) set if WREN (14) is.
+abbrev pub Fitting : Type 0
+Fitting =
+    (s : ℕ) (who : Driver) (w : ℕ) →
+    fit s who w
+    ≡ ((owns s who (w % 2 ^ 4) && owns s who (w / 2 ^ 8 % 2 ^ 4)) && leb (w % 2 ^ 4) (w / 2 ^ 8 % 2 ^ 4)) && (not (bit 14 w) || bit 13 w)
+
 abbrev pub Exactly : Type 0
 Exactly = (d : Shared) (e : Event) → eqb (step d e .answer .refusal) 9 ≡ nine d e
 
@@ -139,6 +146,7 @@ pub record Claims : Type 0 where
       (d : Shared) (who one : Driver) → nine d (Release who) ≡ false → holds (step d (Release who) .state) one ≡ false
 
 pub record Laws : Type 0 where
+  pub fitting : Fitting
   pub exactly : Exactly
   pub unchanged : Unchanged
   pub demand2 : Demand2

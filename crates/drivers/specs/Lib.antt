@@ -3,3 +3,4 @@ pub mod Reach
 pub mod Event
 pub mod Host
 pub mod Laws
+pub mod Witness
