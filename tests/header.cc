@@ -83,5 +83,21 @@ int main()
     expect(!qsm_plan_accepts(points, 95, planned.plan), "another word is not accepted");
     uint16_t last = qsm_plan_writes(planned.plan);
     expect(last == 7 && qsm_plan_write(planned.plan, 6).offset == QSM_SPCR1 && qsm_plan_write(planned.plan, 7).width == 0, "SPCR1 is the last of seven writes");
+    struct qsm_drivers shared = qsm_drivers_new();
+    expect(qsm_drivers_claim(&shared, false).refusal == QSM_NOT_YOURS, "no claim before the first reset");
+    expect(qsm_drivers_reset(&shared, 0).refusal == QSM_NOT_YOURS && shared.split == 0, "a first reset needs a split");
+    expect(qsm_drivers_reset(&shared, 4).refusal == QSM_ANSWERED && shared.split == 4, "which it fixes");
+    expect(qsm_drivers_host_write(&shared, true, 2, QSM_SPCR0, 0x8104).refusal == QSM_ANSWERED, "the host reaches all registers");
+    expect(qsm_drivers_host_read(&shared, true, 2, QSM_SPCR0).value == 0x8104, "and reads them");
+    expect(qsm_drivers_read(&shared, false, true, 2, QSM_RECEIVE + 8).refusal == QSM_NOT_YOURS, "entry 4 is the spindle driver's");
+    expect(qsm_drivers_read(&shared, true, true, 2, QSM_RECEIVE + 8).refusal == QSM_ANSWERED, "who reads its words");
+    expect(qsm_drivers_write(&shared, false, true, 2, QSM_SPCR2, 0x0300).refusal == QSM_NOT_YOURS, "SPCR2 needs the claim");
+    expect(qsm_drivers_claim(&shared, false).refusal == QSM_ANSWERED && shared.holder == 1, "which the axis driver takes");
+    expect(qsm_drivers_write(&shared, false, true, 2, QSM_SPCR2, 0x0300).refusal == QSM_ANSWERED, "then it is written");
+    expect(qsm_drivers_write(&shared, false, true, 2, QSM_SPCR1, 0x8404).refusal == QSM_ANSWERED, "SPE is set");
+    expect(qsm_drivers_release(&shared, false).refusal == QSM_NOT_YOURS, "and there is no release");
+    expect(qsm_drivers_hold(&shared, 0xFF, true, 1000).clock == 1000, "time passes");
+    expect(qsm_drivers_reset(&shared, 9).refusal == QSM_ANSWERED && shared.split == 4 && shared.holder == 0, "a later reset keeps the split");
+
     return failed;
 }

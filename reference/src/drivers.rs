@@ -126,7 +126,12 @@ impl Drivers {
     /// What a write leaves at 1A to 1D is what the driver may put there.
     fn in_order(&self, who: Driver, width: u8, offset: u16, value: u32) -> bool {
         let (spcr1, spcr2) = (self.register(0x1A), self.register(0x1C));
-        let mut bytes = [(spcr1 >> 8) as u8, spcr1 as u8, (spcr2 >> 8) as u8, spcr2 as u8];
+        let mut bytes = [
+            (spcr1 >> 8) as u8,
+            spcr1 as u8,
+            (spcr2 >> 8) as u8,
+            spcr2 as u8,
+        ];
         let mut touched = [false; 4];
         for (place, byte) in (offset..).zip(&value.to_be_bytes()[4 - usize::from(width)..]) {
             if let 0x1A..=0x1D = place {

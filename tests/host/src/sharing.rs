@@ -1,6 +1,6 @@
 //! Two drivers and their host at the module that they share: random events on the library and on the reference, every answer compared.
 
-use crate::event::Event;
+use crate::event::{write, Event};
 use crate::pair::{same, Difference};
 use crate::{queue, wild};
 use host::drivers::Drivers;
@@ -117,7 +117,10 @@ impl Sharing {
     }
 
     fn release(&mut self, who: bool) -> Result<(), Difference> {
-        let (library, reference) = (self.library.release(who), self.reference.release(named(who)));
+        let (library, reference) = (
+            self.library.release(who),
+            self.reference.release(named(who)),
+        );
         self.tell(|| format!("release {who}"), library, reference)
     }
 
@@ -132,11 +135,11 @@ impl Sharing {
         let (width, offset) = self.random.pick(&[(2, 0x1C), (2, 0x1C), (1, 0x1C)]);
         let spcr2 = wrap | last << 8 | first;
         let value = if width == 1 { spcr2 >> 8 } else { spcr2 };
-        self.event(Some(who), crate::event::write(width, offset, value))?;
+        self.event(Some(who), write(width, offset, value))?;
         if self.random.percent(30) {
-            self.event(Some(who), crate::event::write(4, 0x1A, (spcr1 | 0x8000) << 16 | spcr2))
+            self.event(Some(who), write(4, 0x1A, (spcr1 | 0x8000) << 16 | spcr2))
         } else {
-            self.event(Some(who), crate::event::write(2, 0x1A, spcr1 | 0x8000))
+            self.event(Some(who), write(2, 0x1A, spcr1 | 0x8000))
         }
     }
 
@@ -151,11 +154,12 @@ impl Sharing {
                 if (1..=15).contains(&split) {
                     self.run(who, split)
                 } else {
-                    self.reset(self.random.below(18) as u8)
+                    let split = self.random.below(18) as u8;
+                    self.reset(split)
                 }
             }
             21..=24 => {
-                let event = crate::event::write(2, 0x1A, self.random.pick(&[0x0404, 0x8404]));
+                let event = write(2, 0x1A, self.random.pick(&[0x0404, 0x8404]));
                 self.event(by, event)
             }
             25..=70 => {
@@ -188,7 +192,7 @@ pub fn run(seed: u64) -> Result<u64, Difference> {
             for event in queue::set_up(&mut sharing.random) {
                 sharing.event(None, event)?;
             }
-            sharing.event(None, crate::event::write(2, 0x1A, 0x0404))?;
+            sharing.event(None, write(2, 0x1A, 0x0404))?;
         }
         for _ in 0..EVENTS {
             sharing.next(&mut pins)?;
