@@ -8,6 +8,7 @@ use lib.ListN.{length, length-append}
 use Rattle.qsm.specs.declared.event.Answer.{Answer}
 use Rattle.text.specs.Line.{room}
 use Rattle.text.specs.Log.{foreignKind}
+use Rattle.text.specs.Answer.{unnamed}
 use Rattle.text.specs.Difference.{fieldName, kindText, refusalText, pinsText, levelText, fieldText, differenceLine}
 use Rattle.text.specs.Verdict.{equalLine, more, differLine, why, refusedLine, expected, otherLine}
 use Rattle.text.specs.Noise.{noiseLine, tallyLine}
@@ -30,7 +31,7 @@ kind-length : (k : ℕ) → length (kindText k) ≤ 58
 kind-length k = either (foreignKind k) _ _ 58 (omega arith) (omega arith)
 
 refusal-text-length : (n : ℕ) → length (refusalText n) ≤ 58
-refusal-text-length n = either (ltb 4 n) _ _ 58 (omega arith) (omega (arith, refusal-length n))
+refusal-text-length n = either (unnamed n) _ _ 58 (omega arith) (omega (arith, refusal-length n))
 
 pins-text-length : (b : ℕ) (a : Answer) → length (pinsText b a) ≤ 58
 pins-text-length b a =

@@ -52,7 +52,8 @@ refusal-length n =
     (either (eqb n 1) _ _ 26 (omega arith)
     (either (eqb n 2) _ _ 26 (omega arith)
     (either (eqb n 3) _ _ 26 (omega arith)
-    (either (eqb n 4) _ _ 26 (omega arith) (omega arith)))))
+    (either (eqb n 4) _ _ 26 (omega arith)
+    (either (eqb n 9) _ _ 26 (omega arith) (omega arith))))))
 
 pin-length : (name : List ℕ) (driven high : Bool) → length (pin name driven high) ≤ length name + 2
 pin-length name true true = simp length-append (omega arith)

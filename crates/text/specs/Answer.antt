@@ -1,15 +1,19 @@
 -- The line of an answer: `8: refusal 2 (unmapped), value 00000000, pins TXD=0, no request, clock 1024`; one of kind 10 has no clock.
-use mathlib.Core.Bool.{Bool, cond}
+use mathlib.Core.Bool.{Bool, cond, not, _&&_}
 use mathlib.Core.List.{List, [], _∷_, _++_}
 use Prim.Native.Nat.{ℕ}
-use lib.Dec.{eqb}
+use lib.Dec.{eqb, ltb}
 use Rattle.steps.specs.Bits.{bit}
 use Rattle.qsm.specs.declared.event.Answer.{Answer}
 use Rattle.trace.specs.Trace.{answerKind}
 use Rattle.text.specs.Digits.{ascii, decimal, hexByte, hexLong, number}
 use Rattle.text.specs.declared.log.Logged.{Logged}
 
--- Document 01, Seven refusals: those that an access is answered with.
+-- A refusal that no answer has: an access is refused 1 to 4 (document 01), a driver's event 9 too (02, L11).
+abbrev pub unnamed : ℕ → Bool
+unnamed number = ltb 4 number && not (eqb number 9)
+
+-- Those that an answer has.
 unfoldable pub refusal : ℕ → List ℕ
 refusal number =
     cond (eqb number 0) (ascii "ok")
@@ -17,7 +21,8 @@ refusal number =
     (cond (eqb number 2) (ascii "refusal 2 (unmapped)")
     (cond (eqb number 3) (ascii "refusal 3 (unmodelled bit)")
     (cond (eqb number 4) (ascii "refusal 4 (guarded field)")
-    (ascii "unknown refusal")))))
+    (cond (eqb number 9) (ascii "refusal 9 (not yours)")
+    (ascii "unknown refusal"))))))
 
 -- A pin by its name with its level, if it is driven.
 abbrev pub pin : List ℕ → Bool → Bool → List ℕ

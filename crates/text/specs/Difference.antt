@@ -6,7 +6,7 @@ use lib.Dec.{eqb, ltb}
 use lib.Bits.{bitAnd}
 use Rattle.qsm.specs.declared.event.Answer.{Answer}
 use Rattle.text.specs.Digits.{ascii, decimal, hexByte, hexLong, number}
-use Rattle.text.specs.Answer.{refusal, pins}
+use Rattle.text.specs.Answer.{unnamed, refusal, pins}
 use Rattle.text.specs.Log.{foreignKind}
 use Rattle.text.specs.declared.difference.Field.{Field}
 use Rattle.text.specs.declared.difference.Field.the-variants.{Kind, Refusal, Value, Levels, Mask, Level, Vector, Clock}
@@ -31,7 +31,7 @@ kindText k = cond (foreignKind k) (foreign k) (hexByte k)
 
 -- 5 to 7 and 10 stop a trace and have no answer in a log.
 abbrev pub refusalText : ℕ → List ℕ
-refusalText n = cond (ltb 4 n) (foreign n) (refusal n)
+refusalText n = cond (unnamed n) (foreign n) (refusal n)
 
 -- The driven pins with their levels; the byte b where a pin that is not driven has a level.
 abbrev pub pinsText : ℕ → Answer → List ℕ

@@ -1,6 +1,7 @@
 -- What is shown of the texts: decimal digits give the number back, to a reader and to the code, and an answer's bytes in a log give the answer back.
 use mathlib.Core.Path.{_≡_}
 use mathlib.Core.Logic.{_⊎_}
+use mathlib.Core.Bool.{false}
 use mathlib.Core.List.{List, [], _∷_, _++_}
 use Prim.Native.Nat.{ℕ, _+_, _-_, _*_, _≤_, _<_, _^_}
 use lib.Bits.{bitAnd}
@@ -8,6 +9,7 @@ use Rattle.qsm.specs.declared.event.Answer.{Answer}
 use Rattle.trace.specs.Trace.{answerKind, answerBody, answerBytes}
 use Rattle.text.specs.Digits.{decimal}
 use Rattle.text.specs.Number.{numberOf}
+use Rattle.text.specs.Answer.{unnamed}
 use Rattle.text.specs.Log.{plainKind, entry}
 use Rattle.text.specs.declared.number.Number.the-variants.{Is}
 use Rattle.text.specs.declared.log.Entry.the-variants.{Whole, OtherKind}
@@ -29,7 +31,7 @@ NumbersGiveBack = (n : ℕ) → n < 2 ^ 64 → numberOf (decimal 20 n) ≡ Is n
 pub record Given (a : Answer) : Type 0 where
   pub value : a .value < 2 ^ 32
   pub clock : a .clock < 2 ^ 64
-  pub refusal : a .refusal ≤ 4
+  pub refusal : unnamed (a .refusal) ≡ false
   pub driven : bitAnd (a .levels) (a .mask) ≡ a .levels
 
 -- At the start of a log, or behind answers of a kind.

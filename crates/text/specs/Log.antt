@@ -8,6 +8,7 @@ use lib.Bits.{bitAnd}
 use lib.ListN.{length}
 use Rattle.trace.specs.Trace.{byteAt, longAt, answerKind, answerLength}
 use Rattle.qsm.specs.declared.event.Answer.{Answer}
+use Rattle.text.specs.Answer.{unnamed}
 use Rattle.text.specs.declared.log.Entry.{Entry}
 use Rattle.text.specs.declared.log.Logged.{Logged}
 use Rattle.text.specs.declared.log.Entry.the-variants.{Whole, NoAnswer, OtherKind, NoRefusal, NotDriven, Cut}
@@ -49,10 +50,10 @@ abbrev pub loggedAt : List ℕ → Logged
 loggedAt t =
     cond (ltb (length t) (sizeOf (byteAt t 0))) nothing (record { kind = byteAt t 0; answer = answerAt (byteAt t 0) t })
 
--- What is wrong first: a refusal above 4, a level of a pin that is not driven; else the answer.
+-- What is wrong first: a refusal that no answer has, a level of a pin that is not driven; else the answer.
 abbrev pub tested : Logged → Entry
 tested l =
-    cond (ltb 4 (l .answer .refusal)) NoRefusal
+    cond (unnamed (l .answer .refusal)) NoRefusal
     (cond (not (eqb (bitAnd (l .answer .levels) (l .answer .mask)) (l .answer .levels))) NotDriven (Whole l))
 
 -- The first byte of an answer: of no kind, or of another than the answers before it, whose kind is given, or 0 if there are none.

@@ -20,7 +20,7 @@ stopWords ClockLimit = ascii "hold past the clock's limit"
 abbrev pub faultWords : Fault → List ℕ
 faultWords NoAnswer = ascii "its first byte is neither hex 10 nor hex 11"
 faultWords OtherKind = ascii "it is of another kind than those before it"
-faultWords NoRefusal = ascii "its refusal is above 4"
+faultWords NoRefusal = ascii "its refusal is neither 0 to 4 nor 9"
 faultWords NotDriven = ascii "it gives the level of a pin that is not driven"
 faultWords NoRecord = ascii "unknown record kind"
 faultWords Cut = ascii "cut by the end of the input"

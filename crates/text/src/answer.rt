@@ -3,10 +3,18 @@
 ghost use mathlib.Core.Path.{_≡_};
 ghost use Rattle.steps.specs.Bits.{bit};
 ghost use Rattle.text.specs.Line.{puts, Shows};
-ghost use Rattle.text.specs.Answer.{refusal, pin, eachPin, pins, request, fields, clock, answerLine};
+ghost use Rattle.text.specs.Answer.{unnamed, refusal, pin, eachPin, pins, request, fields, clock, answerLine};
 use crate::line::Line;
 use crate::log::Logged;
 use qsm::event::Answer;
+
+// A refusal that no answer has: an access is refused 1 to 4, a driver's event 9 too (02, L11).
+// Ruled out: 9 alone; 5, which stops a trace.
+pub fn unnamed(number: u8) -> bool
+    ensures { λ r. ⌜ r ≡ unnamed number ⌝ }
+{
+    (4 < number) & (number != 9)
+}
 
 impl Line {
     // Ruled out: 3 and 4 swapped; a name of a refusal for none.
@@ -19,6 +27,7 @@ impl Line {
             2 => self.write(b"refusal 2 (unmapped)"),
             3 => self.write(b"refusal 3 (unmodelled bit)"),
             4 => self.write(b"refusal 4 (guarded field)"),
+            9 => self.write(b"refusal 9 (not yours)"),
             _ => self.write(b"unknown refusal"),
         }
     }

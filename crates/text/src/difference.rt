@@ -2,6 +2,7 @@
 ghost use mathlib.Core.Path.{_≡_};
 ghost use Rattle.text.specs.Line.{puts, Shows};
 ghost use Rattle.text.specs.Difference.{fieldName, foreign, kindText, refusalText, pinsText, levelText, fieldText, differenceLine};
+use crate::answer::unnamed;
 use crate::line::Line;
 use crate::log::Logged;
 use crate::log::foreign_kind;
@@ -55,7 +56,7 @@ impl Line {
     fn refusal_text(self, n: u8) -> Line
         ensures { λ r. ⌜ r ≡ puts self (refusalText n) ⌝ }
     {
-        if n > 4 {
+        if unnamed(n) {
             self.foreign(n)
         } else {
             self.refusal(n)

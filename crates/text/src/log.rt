@@ -4,9 +4,10 @@ ghost use Prim.Native.Nat.{_≤_, _+_};
 ghost use lib.ListN.{length};
 ghost use Rattle.trace.specs.Trace.{wordAt, long, longAt};
 ghost use Rattle.text.specs.Log.{sizeOf, wide, clockAt, nothing, loggedAt, tested, foreignKind, otherKind, entry};
+use crate::answer::unnamed;
 use qsm::event::Answer;
 
-// An answer, or what is wrong: its first byte is neither 10 nor 11, or not that of the answers before it, its refusal is above 4, a pin that
+// An answer, or what is wrong: its first byte is neither 10 nor 11, or not that of the answers before it, its refusal is none that an answer has, a pin that
 // is not driven has a level, or the end of the log cuts it.
 pub enum Entry {
     Whole(Logged),
@@ -113,7 +114,7 @@ fn tested(l: Logged) -> Entry
     ensures { λ r. ⌜ r ≡ tested l ⌝ }
 {
     let a = l.answer;
-    if a.refusal > 4 {
+    if unnamed(a.refusal) {
         return Entry::NoRefusal;
     }
     if (a.levels & a.mask) != a.levels {
@@ -136,7 +137,7 @@ fn other_kind(kind: u8, first: u8) -> bool
 }
 
 // The answers before it are of the kind given, or there are none and it is 0.
-// Ruled out: a refusal above 4 taken; an answer of another kind than those before it; a first byte of no kind that waits for more.
+// Ruled out: a refusal that no answer has taken; an answer of another kind than those before it; a first byte of no kind that waits for more.
 pub fn parse_answer(kind: u8, rest: &[u8]) -> Entry
     ensures { λ r. ⌜ r ≡ entry kind (now (rest .entry)) ⌝ }
 {

@@ -36,7 +36,7 @@ impl Line {
         match fault {
             Fault::NoAnswer => self.write(b"its first byte is neither hex 10 nor hex 11"),
             Fault::OtherKind => self.write(b"it is of another kind than those before it"),
-            Fault::NoRefusal => self.write(b"its refusal is above 4"),
+            Fault::NoRefusal => self.write(b"its refusal is neither 0 to 4 nor 9"),
             Fault::NotDriven => self.write(b"it gives the level of a pin that is not driven"),
             Fault::NoRecord => self.write(b"unknown record kind"),
             Fault::Cut => self.write(b"cut by the end of the input"),

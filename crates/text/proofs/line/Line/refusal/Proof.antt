@@ -26,14 +26,19 @@ returns-5 c = rw (c .write5 .ensures, c .before .before .match .keys5)
 
 returns-6 : tie.Need-returns-6
 unfolding refusal
-returns-6 c =
+returns-6 c = rw (c .write6 .ensures, c .before .before .match .keys6)
+
+returns-7 : tie.Need-returns-7
+unfolding refusal
+returns-7 c =
     rw (
-      c .write6 .ensures,
-      ne-eqb _ 0 (c .before .before .match .rest .0 .0 .0 .0 .1),
-      ne-eqb _ 1 (c .before .before .match .rest .0 .0 .0 .1),
-      ne-eqb _ 2 (c .before .before .match .rest .0 .0 .1),
-      ne-eqb _ 3 (c .before .before .match .rest .0 .1),
-      ne-eqb _ 4 (c .before .before .match .rest .1),
+      c .write7 .ensures,
+      ne-eqb _ 0 (c .before .before .match .rest .0 .0 .0 .0 .0 .1),
+      ne-eqb _ 1 (c .before .before .match .rest .0 .0 .0 .0 .1),
+      ne-eqb _ 2 (c .before .before .match .rest .0 .0 .0 .1),
+      ne-eqb _ 3 (c .before .before .match .rest .0 .0 .1),
+      ne-eqb _ 4 (c .before .before .match .rest .0 .1),
+      ne-eqb _ 9 (c .before .before .match .rest .1),
     )
 
 pub refusal-spec : {M : Type 1} → statement M
@@ -52,9 +57,12 @@ refusal-spec =
     (λ c κs. search needs)
     (λ c. search needs)
     (λ c κs. search needs)
+    (λ c. search needs)
+    (λ c κs. search needs)
     returns
     returns-2
     returns-3
     returns-4
     returns-5
-    returns-6)
+    returns-6
+    returns-7)
