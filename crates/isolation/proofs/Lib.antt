@@ -1,0 +1,13 @@
+pub mod Blank
+pub mod Masked
+pub mod Clocked
+pub mod Words
+pub mod Held
+pub mod Stores
+pub mod Writes
+pub mod Values
+pub mod Reached
+pub mod Steps
+pub mod Neither
+pub mod Clocks
+pub mod Witness

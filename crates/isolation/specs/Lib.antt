@@ -1,0 +1,3 @@
+pub mod Running
+pub mod Twins
+pub mod Witness
