@@ -7,7 +7,6 @@ use lib.Dec.{eqb, ltb}
 use borrow.Author.Tests.{ltb-true, ltb-false, ne-eqb}
 use Rattle.qspi.specs.declared.registers.Registers.{Registers}
 use Rattle.qsm.specs.Map.{from, decode}
-use Rattle.qsm.specs.declared.map.OwnWord.the-variants.{Qsmcr}
 use Rattle.qsm.specs.declared.map.QueueWord.the-variants.{Spcr0, Spcr1, Spcr2, Spcr3Spsr, Receive, Transmit, Command}
 use Rattle.qsm.specs.declared.map.Place.{Place}
 use Rattle.qsm.specs.declared.map.Place.the-variants.{Own, Serial, Queue, Hole}
@@ -31,11 +30,11 @@ module _ (s : ℕ) (who : Driver) (c : Bool) where
   both-bytes (Own w) = refl
   both-bytes (Serial w) = refl
   both-bytes (Queue Spcr0) = refl
-  both-bytes (Queue Spcr1) = and-same c
-  both-bytes (Queue Spcr2) = and-same c
-  both-bytes (Queue Spcr3Spsr) = and-same c
-  both-bytes (Queue (Receive i)) = and-same (owns s who i)
-  both-bytes (Queue (Transmit i)) = and-same (owns s who i)
+  both-bytes (Queue Spcr1) = and-same (reachesWord s who c (Queue Spcr1) true true)
+  both-bytes (Queue Spcr2) = and-same (reachesWord s who c (Queue Spcr2) true true)
+  both-bytes (Queue Spcr3Spsr) = and-same (reachesWord s who c (Queue Spcr3Spsr) true true)
+  both-bytes (Queue (Receive i)) = and-same (reachesWord s who c (Queue (Receive i)) true true)
+  both-bytes (Queue (Transmit i)) = and-same (reachesWord s who c (Queue (Transmit i)) true true)
   both-bytes (Queue (Command i)) = ap (λ (x : Bool). x && owns s who (i * 2 + 1)) (sym (and-true (owns s who (i * 2))))
   both-bytes Hole = refl
 
