@@ -14,6 +14,7 @@ use Rattle.qsm.specs.declared.event.Answer.{Answer}
 use Rattle.trace.specs.Trace.{byteAt, whole, parsed, answerKind}
 use Rattle.trace.specs.declared.Parsed.{Parsed}
 use Rattle.trace.specs.declared.Parsed.the-variants.{Record, Unknown, Cut}
+use Rattle.text.specs.Answer.{unnamed}
 use Rattle.text.specs.Log.{sizeOf, loggedAt, foreignKind, otherKind, entry}
 use Rattle.text.specs.declared.log.Entry.{Entry}
 use Rattle.text.specs.declared.log.Entry.the-variants as log
@@ -47,7 +48,7 @@ short-answer kind t =
     (by-test (ShortAnswer t) (otherKind kind (byteAt t 0)) _ _ (λ _. tt)
     (by-test (ShortAnswer t) (ltb (length t) (sizeOf (byteAt t 0))) _ _
     (λ h. omega (arith, ltb-true (length t) (sizeOf (byteAt t 0)) h, at-most (eqb (byteAt t 0) answerKind)))
-    (by-test (ShortAnswer t) (ltb 4 (a .refusal)) _ _ (λ _. tt)
+    (by-test (ShortAnswer t) (unnamed (a .refusal)) _ _ (λ _. tt)
     (by-test (ShortAnswer t) (not (eqb (bitAnd (a .levels) (a .mask)) (a .levels))) _ _ (λ _. tt) tt)))))
 
 waits-answer : (t : List ℕ) (e : Entry) → OfAnswer e More → ShortAnswer t e → length t < 18
