@@ -403,6 +403,8 @@ struct qsm_lines qsm_lines_new(void);
  * first byte given.
  */
 struct qsm_lines_told qsm_lines_next(struct qsm_lines state, const uint8_t *trace, size_t length, uint32_t period, uint8_t *line, size_t room);
+
+/*
  * A module whose queue two drivers share, the axis driver and the spindle driver. The host keeps the struct, resets and holds it and may access all of the
  * module; a driver's own accesses go through qsm_drivers_read and qsm_drivers_write, with `spindle` true for the spindle driver. The first reset fixes the
  * split, from 1 to 15: the axis driver owns entries 0 to split - 1, the spindle driver the rest to 15. Later resets keep it, whatever they name, and end a claim.

@@ -14,8 +14,8 @@ ghost use Rattle.settings.specs.Editions.{add, withdraw, get, newest, Changes};
 ghost use Rattle.qsm_c.specs.Play.{Plays};
 ghost use Rattle.qsm_c.specs.Version.{version};
 
+mod changes;
 mod lines;
-
 mod shared;
 
 use comparison::Compared;

@@ -34,7 +34,7 @@ add-t13 c = omega (arith, c .before .before .before .before .before .before .bef
 
 returns : tie.Need-returns Inv-loop μ-loop
 unfolding untilChange
-returns c = 
+returns c =
     let at = c .before .before .before .before .before .before .before in
     let s = at .loop .s in
     let left = at .loop .left in
@@ -57,17 +57,17 @@ returns c =
     ∙ ap (λ (m : Module). firstOf (changed (look (at .before .before .before .args .m)) m rxd) longest 1) (at .before .held .ensures)
 
 sub-left : tie.Need-sub-left Inv-loop μ-loop
-sub-left c = 
+sub-left c =
     let at = c .before .before .before .before .before .before .before in
     omega (arith, c .before .before .before .before .least .ensures)
 
 loop-less : tie.Need-loop-less Inv-loop μ-loop
-loop-less c = 
+loop-less c =
     let at = c .before .before .before .before .before .before .before in
     omega (arith, c .before .before .before .before .least .ensures, c .before .before .before .before .before .steady .ensures .0, c .before .before .before .before .before .before .loop-test .taken)
 
 loop-again : tie.Need-loop-again Inv-loop μ-loop
-loop-again c = 
+loop-again c =
     let at = c .before .before .before .before .before .before .before in
     let s = at .loop .s in
     let left = at .loop .left in
@@ -88,16 +88,16 @@ loop-again c =
     let far : k + (longest - left) ≡ longest - (left - k) = omega (arith, at .loop .inv .0) in (
       omega (arith, at .loop .inv .0),
       c .before .before .before .ahead .ensures
-      ∙ stands now from s rxd (longest - left) k (at .loop .inv .1) (c .before .before .before .before .before .steady .ensures .1) some most
-      ∙ ap (λ (n : ℕ). ahead n rxd from) far,
+          ∙ stands now from s rxd (longest - left) k (at .loop .inv .1) (c .before .before .before .before .before .steady .ensures .1) some most
+          ∙ ap (λ (n : ℕ). ahead n rxd from) far,
       at .loop .inv .2
-      ∙ goes-on now from s rxd (longest - left) k (at .loop .inv .1) (c .before .before .before .before .before .steady .ensures .1) some most left fits same
-      ∙ ap (firstOf (changed now from rxd) (left - k)) on,
+          ∙ goes-on now from s rxd (longest - left) k (at .loop .inv .1) (c .before .before .before .before .before .steady .ensures .1) some most left fits same
+          ∙ ap (firstOf (changed now from rxd) (left - k)) on,
     )
 
 returns-2 : tie.Need-returns-2 Inv-loop μ-loop
 unfolding untilChange firstOf
-returns-2 c = 
+returns-2 c =
     let at = c .before in
     let rxd = at .before .before .before .args .rxd in
     let now = at .before .before .shown .result in
