@@ -433,6 +433,34 @@ struct qsm_answer qsm_drivers_read(struct qsm_drivers *d, bool spindle, bool sup
 struct qsm_answer qsm_drivers_write(struct qsm_drivers *d, bool spindle, bool supervisor, uint8_t width, uint16_t offset, uint32_t value);
 struct qsm_answer qsm_drivers_claim(struct qsm_drivers *d, bool spindle);
 struct qsm_answer qsm_drivers_release(struct qsm_drivers *d, bool spindle);
+/* Marks of a trace: one for every so many records, at most so many of them, so many numbers each. */
+enum qsm_index { QSM_INDEX_SPACING = 256, QSM_INDEX_MARKS = 4096, QSM_INDEX_NUMBERS = 2 };
+
+struct qsm_indexed {
+    size_t marks;     /* marks that the list holds now; refused: that it would have to hold */
+    uint64_t records; /* records of the trace that are whole and of a known kind, up to a stop */
+    uint64_t place;   /* where they end, in bytes */
+    uint64_t resets;  /* resets among them */
+    uint8_t stop;     /* QSM_UNKNOWN_KIND, QSM_CUT_RECORD; QSM_ANSWERED at the end of the trace */
+    uint8_t refusal;  /* QSM_NO_ROOM; else QSM_ANSWERED */
+};
+
+struct qsm_found {
+    uint64_t place;  /* where the record starts, in bytes; 0 where it is not there */
+    uint64_t resets; /* resets before it, itself left out */
+    uint64_t walked; /* records that were walked over to it: fewer than 256 from a mark of its own */
+    uint8_t refusal; /* QSM_UNMAPPED where there is no such record; else QSM_ANSWERED */
+};
+
+/*
+ * An index of a trace: for records 0, 256, 512 and so on, up to a stop, two numbers in the host's list, the place and the resets before it. It is
+ * built, or extended after records were added at the end, where `count` marks of the trace's beginning stand in the list: then only new marks are
+ * written. QSM_NO_ROOM leaves every number as it was. A record is found by marks of the trace or of a beginning of it; by others there is an
+ * answer, of no meaning.
+ */
+struct qsm_indexed qsm_index_build(const uint8_t *trace, size_t length, uint64_t *marks, size_t room);
+struct qsm_indexed qsm_index_extend(const uint8_t *trace, size_t length, uint64_t *marks, size_t room, size_t count);
+struct qsm_found qsm_index_find(const uint8_t *trace, size_t length, const uint64_t *marks, size_t room, size_t count, uint64_t number);
 
 #ifdef __cplusplus
 }
@@ -504,6 +532,10 @@ QSM_AT(qsm_lines_told, kind, 336, 1); QSM_AT(qsm_lines_told, length, 337, 1); QS
 QSM_AT(qsm_lines_told, refusal, 339, 1);
 QSM_STRUCT(qsm_drivers, 8, 176); QSM_AT(qsm_drivers, qsm, 0, 168); QSM_AT(qsm_drivers, split, 168, 1);
 QSM_AT(qsm_drivers, holder, 169, 1);
+QSM_STRUCT(qsm_indexed, 8, 40); QSM_AT(qsm_indexed, marks, 0, 8); QSM_AT(qsm_indexed, records, 8, 8); QSM_AT(qsm_indexed, place, 16, 8);
+QSM_AT(qsm_indexed, resets, 24, 8); QSM_AT(qsm_indexed, stop, 32, 1); QSM_AT(qsm_indexed, refusal, 33, 1);
+QSM_STRUCT(qsm_found, 8, 32); QSM_AT(qsm_found, place, 0, 8); QSM_AT(qsm_found, resets, 8, 8); QSM_AT(qsm_found, walked, 16, 8);
+QSM_AT(qsm_found, refusal, 24, 1);
 #undef QSM_AT
 #undef QSM_STRUCT
 #undef QSM_IS

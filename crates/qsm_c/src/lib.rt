@@ -18,6 +18,8 @@ mod changes;
 mod lines;
 mod shared;
 
+mod index;
+
 use comparison::Compared;
 use planner::Plan;
 use planner::Planned;

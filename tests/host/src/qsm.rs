@@ -148,6 +148,22 @@ c_struct!(Compared {
     length: usize,
 });
 
+c_struct!(Indexed {
+    marks: usize,
+    records: u64,
+    place: u64,
+    resets: u64,
+    stop: u8,
+    refusal: u8,
+});
+
+c_struct!(Found {
+    place: u64,
+    resets: u64,
+    walked: u64,
+    refusal: u8,
+});
+
 c_struct!(Edition {
     number: u16,
     sccr0: u16,
@@ -246,6 +262,22 @@ extern "C" {
         list: *mut u64,
         room: usize,
     ) -> Compared;
+    fn qsm_index_build(trace: *const u8, length: usize, marks: *mut u64, room: usize) -> Indexed;
+    fn qsm_index_extend(
+        trace: *const u8,
+        length: usize,
+        marks: *mut u64,
+        room: usize,
+        count: usize,
+    ) -> Indexed;
+    fn qsm_index_find(
+        trace: *const u8,
+        length: usize,
+        marks: *const u64,
+        room: usize,
+        count: usize,
+        number: u64,
+    ) -> Found;
     fn qsm_editions_add(buffer: *mut u8, length: usize, used: usize, edition: Edition) -> Changed;
     fn qsm_editions_withdraw(buffer: *mut u8, length: usize, used: usize, number: u16) -> Changed;
     fn qsm_editions_get(buffer: *const u8, length: usize, used: usize, number: u16) -> Given;
@@ -349,6 +381,38 @@ pub fn compare(first: &[u8], second: &[u8], list: &mut [u64]) -> Compared {
 }
 
 // SAFETY, of the four calls: a slice is what the header asks for.
+
+pub fn index_build(trace: &[u8], marks: &mut [u64]) -> Indexed {
+    // SAFETY: slices are what the header asks for.
+    unsafe { qsm_index_build(trace.as_ptr(), trace.len(), marks.as_mut_ptr(), marks.len()) }
+}
+
+pub fn index_extend(trace: &[u8], marks: &mut [u64], count: usize) -> Indexed {
+    // SAFETY: slices are what the header asks for.
+    unsafe {
+        qsm_index_extend(
+            trace.as_ptr(),
+            trace.len(),
+            marks.as_mut_ptr(),
+            marks.len(),
+            count,
+        )
+    }
+}
+
+pub fn index_find(trace: &[u8], marks: &[u64], count: usize, number: u64) -> Found {
+    // SAFETY: slices are what the header asks for.
+    unsafe {
+        qsm_index_find(
+            trace.as_ptr(),
+            trace.len(),
+            marks.as_ptr(),
+            marks.len(),
+            count,
+            number,
+        )
+    }
+}
 
 pub fn editions_add(buffer: &mut [u8], used: usize, edition: Edition) -> Changed {
     unsafe { qsm_editions_add(buffer.as_mut_ptr(), buffer.len(), used, edition) }

@@ -7,6 +7,7 @@ mod drivers;
 mod editions;
 mod figures;
 mod lines;
+mod index;
 mod plan;
 mod plans;
 mod play;
@@ -41,6 +42,7 @@ pub fn number(word: &str) -> Result<usize, String> {
 const USAGE: &str =
     "usage: tools play [ROOM] | compare FILE_A FILE_B ROOM | figures | editions | lines PERIOD ROOM | check | plan | plans REPLAY COUNT SEED";
     "usage: tools play [ROOM] | compare FILE_A FILE_B ROOM | figures | editions | drivers | check | plan | plans REPLAY COUNT SEED";
+    "usage: tools play [ROOM] | compare FILE_A FILE_B ROOM | figures | editions | index MARKS | find TRACE NUMBER | check | plan | plans REPLAY COUNT SEED";
 
 fn run(words: &[&str]) -> Printed {
     match words {
@@ -56,6 +58,8 @@ fn run(words: &[&str]) -> Printed {
             lines::lines(period, number(room)?)
         }
         ["drivers"] => drivers::drivers(&text()?),
+        ["index", room] => index::index(&standard_input()?, number(room)?),
+        ["find", trace, n] => index::find(&file(trace)?, number(n)? as u64),
         ["check"] => plan::check(&text()?),
         ["plan"] => plan::plan(&text()?),
         ["plans", replay, count, seed] => plans::plans(replay, number(count)?, number(seed)?),
