@@ -4,3 +4,7 @@ pub mod Possible
 pub mod Marking
 pub mod Looking
 pub mod Indexing
+pub mod Resuming
+pub mod Origin
+pub mod Lawful
+pub mod InPieces

@@ -34,10 +34,10 @@ module _ (p : Position) (t : List ℕ) (count j : ℕ) (list : List ℕ) (long :
   written-length =
       ap length parted ∙ length-append (take (2 * count) list ++ marksFrom p t count j) (drop (2 * (count + j)) list) ∙ omega (arith, front, length-drop (2 * (count + j)) list)
 
-  written-take : take (2 * (count + j)) (written p t count j list) ≡ take (2 * count) list ++ marksFrom p t count j
+  pub written-take : take (2 * (count + j)) (written p t count j list) ≡ take (2 * count) list ++ marksFrom p t count j
   written-take = ap (take (2 * (count + j))) parted ∙ take-at (take (2 * count) list ++ marksFrom p t count j) (drop (2 * (count + j)) list) (2 * (count + j)) front
 
-  written-drop : drop (2 * (count + j)) (written p t count j list) ≡ drop (2 * (count + j)) list
+  pub written-drop : drop (2 * (count + j)) (written p t count j list) ≡ drop (2 * (count + j)) list
   written-drop = ap (drop (2 * (count + j))) parted ∙ drop-at (take (2 * count) list ++ marksFrom p t count j) (drop (2 * (count + j)) list) (2 * (count + j)) front
 
 -- One mark more.

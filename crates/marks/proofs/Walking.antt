@@ -67,7 +67,7 @@ module _ {p : Position} {t : List ℕ} {n : ℕ} {q : Position} {read : ℕ} (w 
   pub place-is : q .place ≡ p .place + read
   place-is = ap (λ (x : Position). x .place) (w .at-is) ∙ ap (λ (k : ℕ). p .place + k) (sym (w .read-is))
 
-  resets-below : q .resets ≤ p .resets + w .passed
+  pub resets-below : q .resets ≤ p .resets + w .passed
   resets-below =
       omega (arith, ap (λ (x : Position). x .resets) (w .at-is), resets-few (take (w .passed) (records t)), length-take-le (w .passed) (records t) (w .there))
 

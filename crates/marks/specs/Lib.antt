@@ -2,3 +2,5 @@ pub mod Records
 pub mod Walk
 pub mod Marks
 pub mod Find
+pub mod Laws
+pub mod Shown
