@@ -62,6 +62,13 @@ int main()
     differ = qsm_compare(older, 10, newer, 21, list, 0);
     expect(differ.refusal == QSM_CUT_RECORD && !differ.second && differ.length == 0, "a cut log is refused first");
 
+    static const uint8_t resets[] = {1, 1, 3};
+    uint64_t marks[2] = {9, 9};
+    struct qsm_indexed index = qsm_index_build(resets, sizeof resets, marks, 2);
+    expect(index.refusal == QSM_ANSWERED && index.marks == 1 && index.records == 2 && index.stop == QSM_CUT_RECORD, "two resets have one mark");
+    expect(qsm_index_find(resets, sizeof resets, marks, 2, index.marks, 1).place == 1, "the second reset is found");
+    expect(qsm_index_extend(resets, 2, marks, 0, 0).refusal == QSM_NO_ROOM, "no room for a mark");
+
     uint8_t kept[25] = {0};
     const struct qsm_edition plain = {3, 0x0004, 0x000C, 0x8104, 0x0404}, slave = {9, 0x0004, 0x000C, 0x0104, 0x8404};
     struct qsm_editions_changed change = qsm_editions_add(kept, sizeof kept, 0, plain);
