@@ -47,4 +47,22 @@ impl Module {
         let sci = self.sci;
         sci.noise()
     }
+
+    // Frames taken since the last reset, the lost ones with them.
+    // Ruled out: those slept through with them; only those that entered SCDR.
+    pub fn taken(self) -> u32
+        ensures { λ r. ⌜ r ≡ self .sci .account .taken ⌝ }
+    {
+        let sci = self.sci;
+        sci.taken()
+    }
+
+    // Frames lost since the last reset.
+    // Ruled out: rises of OR; frames taken.
+    pub fn lost(self) -> u32
+        ensures { λ r. ⌜ r ≡ self .sci .account .lost ⌝ }
+    {
+        let sci = self.sci;
+        sci.lost()
+    }
 }

@@ -26,11 +26,11 @@ use Rattle.sci.proofs.Settings.{act-settings}
 pub alike-refl : (p : Received) → Alike p p
 alike-refl p = record { lines = refl; same = same-refl (p .status); words = λ e. refl }
 
-rdrf-same : (s t : Status) → Same s t → has s RDRF ≡ has t RDRF
+pub rdrf-same : (s t : Status) → Same s t → has s RDRF ≡ has t RDRF
 unfolding member
 rdrf-same s t e = same-has s t e 6 refl
 
-or-same : (s t : Status) → Same s t → has s OR ≡ has t OR
+pub or-same : (s t : Status) → Same s t → has s OR ≡ has t OR
 unfolding member
 or-same s t e = same-has s t e 3 refl
 

@@ -49,6 +49,7 @@ at sccr1 prescaler word =
       prescaler = prescaler;
       receiver = listening;
       transmitter = record { scdr = word; preamble = false; shift = 0; left = 0 };
+      account = record { taken = 0; lost = 0 };
     }
 
 abbrev two : Wired

@@ -13,7 +13,13 @@ pub mod Reachable
 pub mod Follow
 pub mod Recovery
 pub mod Automaton
+pub mod Written
 pub mod Overrun
+pub mod Tallies
+pub mod Holding
+pub mod OrRises
+pub mod Balance
+pub mod Losing
 pub mod Witness
 pub mod History
 pub mod Demand3
@@ -55,5 +61,6 @@ pub mod Clauses
 pub mod Figure
 pub mod Figures
 pub mod Moves
+pub mod Counts
 pub mod Rest
 pub mod ParityTable

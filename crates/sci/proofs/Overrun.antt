@@ -4,17 +4,17 @@ use mathlib.Core.Bool.{Bool, true, false, cond, not, _&&_, _||_, and-false, or-f
 use mathlib.Core.List.{List, [], _∷_, _++_}
 use mathlib.Core.Option.{Option, none, some}
 use Prim.Native.Nat.{ℕ, _%_}
-use lib.Dec.{eqb, ltb}
-use Rattle.steps.specs.Bits.{merge}
-use Rattle.sci.specs.Flags.{PF, FE, NF, OR, RAF, RDRF, receiveFlags, transmitFlags}
+use lib.Dec.{ltb}
+use Rattle.steps.specs.Bits.{bit}
+use Rattle.sci.specs.Flags.{PF, FE, NF, OR, RDRF, receiveFlags}
 use Rattle.sci.specs.Members.{member}
-use Rattle.sci.specs.Status.{has, raiseIf, fall, markSeen, fallSeen}
-use Rattle.sci.specs.Control.{RE, sccr0Bits}
+use Rattle.sci.specs.Status.{has, raiseIf, markSeen, fallSeen}
+use Rattle.sci.specs.Control.{RE}
 use Rattle.sci.specs.Receiver.{full, outcome, raised, entered, statusAfter, received}
 use Rattle.sci.specs.Transmitter.{sent}
 use Rattle.sci.specs.Line.{read, readStatus, delivers}
 use Rattle.sci.specs.Alike.{Same}
-use Rattle.sci.specs.Serial.{resetSci, active, due, sccr1Word, dataWritten, wroteSccr0, wroteSccr1, sccr0Guarded, sccr1Guarded, stopped, withSccr1}
+use Rattle.sci.specs.Serial.{resetSci, active, due}
 use Rattle.sci.specs.History.{Step, reset, clock, reads, writesSccr0, writesSccr1, writesScdr, step, receiving}
 use Rattle.sci.specs.Overrun.{Mark, frameLost, wordCame, sampleMarks, lookMarks, deliveryMarks, stepMarks, log, Overrun}
 use Rattle.sci.specs.declared.status.Status.{Status}
@@ -23,8 +23,8 @@ use Rattle.sci.specs.declared.receiver.Receiver.{Receiver}
 use Rattle.sci.specs.declared.receiver.Outcome.{Outcome}
 use Rattle.sci.specs.declared.serial.Sci.{Sci}
 use Rattle.sci.proofs.Flagged.{isSet, isMarked, has-flag, set-raise, marked-raise, set-raiseIf, marked-raiseIf, set-markSeen, marked-markSeen, set-fallSeen, marked-fallSeen, raise-keeps}
-use Rattle.sci.proofs.Same.{set-at, marked-at, same-sent, same-loaded, outside-fall}
-use Rattle.sci.proofs.Frames.{by-cond}
+use Rattle.sci.proofs.Same.{set-at, marked-at, same-sent}
+use Rattle.sci.proofs.Written.{keeps-sccr0, keeps-sccr1, keeps-scdr}
 use Rattle.sci.proofs.Samples.{status-set, status-marked}
 use Rattle.sci.proofs.Reachable.{turned, clock-turned}
 use Rattle.sci.proofs.Automaton.{Okay, overrun-of}
@@ -72,7 +72,7 @@ unfolding member
 tied-fetch s owed opn d =
     rw (set-fallSeen 3 s receiveFlags, marked-fallSeen 3 s receiveFlags) (fetch (isSet 3 s) (isMarked 3 s) owed opn d)
 
--- A sample: OR rises with a lost frame alone, and no mark changes.
+-- A sample: OR rises with a lost frame alone.
 or-raised : (s : Status) (f : Frame) (bad : Bool) → isSet 3 (raised s f bad) ≡ isSet 3 s
 unfolding raised member
 or-raised s f bad =
@@ -84,15 +84,16 @@ unfolding entered
 or-entered true s f bad = or-raised s f bad
 or-entered false s f bad = refl
 
-mark-raised : (s : Status) (f : Frame) (bad : Bool) → isMarked 3 (raised s f bad) ≡ isMarked 3 s
+-- No mark changes.
+mark-raised : (k : ℕ) (s : Status) (f : Frame) (bad : Bool) → isMarked k (raised s f bad) ≡ isMarked k s
 unfolding raised
-mark-raised s f bad =
-    marked-raiseIf 3 bad _ PF ∙ marked-raiseIf 3 (not (f .stop)) _ FE ∙ marked-raiseIf 3 (ltb 0 (f .noise)) _ NF ∙ marked-raise 3 s RDRF
+mark-raised k s f bad =
+    marked-raiseIf k bad _ PF ∙ marked-raiseIf k (not (f .stop)) _ FE ∙ marked-raiseIf k (ltb 0 (f .noise)) _ NF ∙ marked-raise k s RDRF
 
-mark-entered : (b : Bool) (s : Status) (f : Frame) (bad : Bool) → isMarked 3 (entered b s f bad) ≡ isMarked 3 s
+mark-entered : (k : ℕ) (b : Bool) (s : Status) (f : Frame) (bad : Bool) → isMarked k (entered b s f bad) ≡ isMarked k s
 unfolding entered
-mark-entered true s f bad = mark-raised s f bad
-mark-entered false s f bad = refl
+mark-entered k true s f bad = mark-raised k s f bad
+mark-entered k false s f bad = refl
 
 or-after : (s : Status) (o : Outcome) (f : Frame) (bad idles : Bool) →
     isSet 3 (statusAfter s o f bad idles) ≡ isSet 3 s || (o .lost && true)
@@ -102,11 +103,12 @@ or-after s o f bad idles =
     ∙ or-entered (o .taken && not (o .lost)) (raiseIf (o .lost) s OR) f bad
     ∙ set-raiseIf 3 (o .lost) s OR
 
-mark-after : (s : Status) (o : Outcome) (f : Frame) (bad idles : Bool) → isMarked 3 (statusAfter s o f bad idles) ≡ isMarked 3 s
-mark-after s o f bad idles =
-    status-marked 3 s o f bad idles refl
-    ∙ mark-entered (o .taken && not (o .lost)) (raiseIf (o .lost) s OR) f bad
-    ∙ marked-raiseIf 3 (o .lost) s OR
+pub mark-after : (k : ℕ) → bit k 32 ≡ false → (s : Status) (o : Outcome) (f : Frame) (bad idles : Bool) →
+    isMarked k (statusAfter s o f bad idles) ≡ isMarked k s
+mark-after k e s o f bad idles =
+    status-marked k s o f bad idles e
+    ∙ mark-entered k (o .taken && not (o .lost)) (raiseIf (o .lost) s OR) f bad
+    ∙ marked-raiseIf k (o .lost) s OR
 
 -- A taken frame, lost or not, and its mark.
 okay-taken : (lost taken or seen owed opn : Bool) (w : ℕ) (h : List Mark) → Tied or seen owed opn →
@@ -160,7 +162,7 @@ okay-sample s t x h owed opn d k =
     (λ a b c.
     k a b
     (subst (λ (z : Bool). Tied z (isMarked 3 (received r t (s .sccr1) x .status)) a b) (sym (or-after t o _ _ _))
-    (subst (λ (z : Bool). Tied (isSet 3 t || (o .lost && true)) z a b) (sym (mark-after t o _ _ _)) c))))
+    (subst (λ (z : Bool). Tied (isSet 3 t || (o .lost && true)) z a b) (sym (mark-after 3 refl t o _ _ _)) c))))
 
 okay-turned : (a d on : Bool) (s : Sci) (x : Bool) (h : List Mark) (owed opn : Bool) → TiedTo (s .status) owed opn →
     ((o p : Bool) → TiedTo (turned a d on s x .status) o p → Okay o p h) →
@@ -187,31 +189,6 @@ okay-read true false s f h owed opn d k = okay-delivery f h false opn (k false o
 okay-read false true s f h owed opn d k = okay-delivery f h owed opn (k owed opn (tied-fetch s owed opn d))
 okay-read false false s f h owed opn d k = okay-delivery f h owed opn (k owed opn d)
 
--- Writes: RE clear leaves OR and its mark as they are, and so does the transmitter.
-tied-sccr0 : (s : Sci) (v : ℕ) (upper lower owed opn : Bool) → TiedTo (s .status) owed opn →
-    TiedTo (wroteSccr0 s v upper lower .status) owed opn
-unfolding wroteSccr0
-tied-sccr0 s v upper lower owed opn d =
-    by-cond (λ (t : Sci). TiedTo (t .status) owed opn) (eqb (sccr0Bits (merge (s .sccr0) v upper lower)) (s .sccr0)) (λ e. d)
-    (λ e. d)
-
-tied-stopped : (on : Bool) (s : Sci) (owed opn : Bool) → TiedTo (s .status) owed opn → TiedTo (stopped on s .status) owed opn
-tied-stopped true s owed opn d = d
-tied-stopped false s owed opn d = tied-same (s .status) (fall (s .status) RAF) owed opn (outside-fall (s .status) RAF refl) d
-
-tied-sccr1 : (s : Sci) (v : ℕ) (upper lower owed opn : Bool) → TiedTo (s .status) owed opn →
-    TiedTo (wroteSccr1 s v upper lower .status) owed opn
-unfolding wroteSccr1
-tied-sccr1 s v upper lower owed opn d =
-    let w : ℕ = merge (sccr1Word s) v upper lower in
-    tied-stopped (RE w) (withSccr1 s w) owed opn d
-
-tied-scdr : (lower : Bool) (s : Sci) (v : ℕ) (upper owed opn : Bool) → TiedTo (s .status) owed opn →
-    TiedTo (dataWritten lower s v upper .status) owed opn
-tied-scdr true s v upper owed opn d =
-    tied-same (s .status) (fallSeen (s .status) transmitFlags) owed opn (same-loaded (s .status)) d
-tied-scdr false s v upper owed opn d = d
-
 pub tied-reset : TiedTo (resetSci .status) false false
 unfolding member
 tied-reset = record { hot = λ e. absurd (false≢true e); lit = λ e. absurd (false≢true e); sub = λ e. e }
@@ -226,15 +203,9 @@ okay-step (clock x) s h owed opn d k =
     (λ o p c. k o p (rw (clock-turned s x) c))
 okay-step (reads scsr scdr) s h owed opn d k =
     okay-read scsr scdr (s .status) (delivers (read scsr scdr) (receiving s)) h owed opn d k
-okay-step (writesSccr0 v upper lower) s h owed opn d k =
-    k owed opn
-    (by-cond (λ (t : Sci). TiedTo (t .status) owed opn) (sccr0Guarded s v upper lower) (λ e. d)
-    (λ e. tied-sccr0 s v upper lower owed opn d))
-okay-step (writesSccr1 v upper lower) s h owed opn d k =
-    k owed opn
-    (by-cond (λ (t : Sci). TiedTo (t .status) owed opn) (sccr1Guarded s v upper lower) (λ e. d)
-    (λ e. tied-sccr1 s v upper lower owed opn d))
-okay-step (writesScdr v upper lower) s h owed opn d k = k owed opn (tied-scdr lower s v upper owed opn d)
+okay-step (writesSccr0 v upper lower) s h owed opn d k = k owed opn (tied-same _ _ owed opn (keeps-sccr0 s v upper lower .same) d)
+okay-step (writesSccr1 v upper lower) s h owed opn d k = k owed opn (tied-same _ _ owed opn (keeps-sccr1 s v upper lower .same) d)
+okay-step (writesScdr v upper lower) s h owed opn d k = k owed opn (tied-same _ _ owed opn (keeps-scdr s v upper lower .same) d)
 
 okay-log : (es : List Step) (s : Sci) (owed opn : Bool) → TiedTo (s .status) owed opn → Okay owed opn (log es s)
 unfolding log

@@ -11,6 +11,7 @@ use Rattle.sci.specs.Framer.{begins, abandons, ends, searched, atRt, sta
 use Rattle.sci.specs.Flags.{OR, IDLE, RAF}
 use Rattle.sci.specs.Status.{raiseIf, fallIf}
 use Rattle.sci.specs.Receiver.{three, reaches, outcome, entered, statusAfter, receiverAfter, received}
+use Rattle.sci.specs.Account.{accounted}
 use Rattle.sci.specs.Transmitter.{beginsPreamble, beginsFrame, ends as ended, sent}
 use Rattle.sci.specs.Serial.{afterReceived, heard, afterSent, sampled, asks}
 use Rattle.sci.specs.Plain.{busy, rests, rested, plain, passed, listened, turns, shifted}
@@ -188,11 +189,16 @@ shifts t s sccr1 h =
 -- One sample, put together from the transmitter's and the receiver's.
 pub samples : (s : Sci) (x : Bool) →
     let t : Sent = sent (s .transmitter) (s .status) (s .sccr1) in
-    afterReceived (afterSent s t) (listened (RE (s .sccr1)) (s .receiver) (t .status) (s .sccr1) x) ≡ sampled s x
+    afterReceived (afterSent s t) (listened (RE (s .sccr1)) (s .receiver) (t .status) (s .sccr1) x)
+    (accounted (RE (s .sccr1)) (s .account) (outcome (s .receiver) (t .status) (s .sccr1) x))
+    ≡ sampled s x
 unfolding sampled
 samples s x = go (RE (s .sccr1)) (afterSent s (sent (s .transmitter) (s .status) (s .sccr1)))
   where
-    go : (re : Bool) (s : Sci) → afterReceived s (listened re (s .receiver) (s .status) (s .sccr1) x) ≡ heard re s x
+    go : (re : Bool) (s : Sci) →
+        afterReceived s (listened re (s .receiver) (s .status) (s .sccr1) x)
+        (accounted re (s .account) (outcome (s .receiver) (s .status) (s .sccr1) x))
+        ≡ heard re s x
     go true s = refl
     go false s = refl
 

@@ -11,11 +11,13 @@ use Rattle.steps.proofs.Iterate.{iterate-period}
 use Rattle.sci.specs.Flags.{TDRE}
 use Rattle.sci.specs.Status.{has}
 use Rattle.sci.specs.Control.{SCBR, TE, RE, M, bitsOf, frameSamples}
-use Rattle.sci.specs.Receiver.{three, reaches, idleCount, received}
+use Rattle.sci.specs.Receiver.{three, reaches, idleCount, outcome, received}
+use Rattle.sci.specs.Account.{counting}
 use Rattle.sci.specs.Transmitter.{sent}
 use Rattle.sci.specs.Serial.{active, heard, afterReceived, afterSent, sampled, clocked}
 use Rattle.sci.specs.Plain.{busy, plain, passed, rested, turns, shifted, rests as framerRests}
 use Rattle.sci.specs.Quiet.{quiet, withCount, senderRests, receiverRests, rests, shortened}
+use Rattle.sci.specs.declared.account.Account.{Account}
 use Rattle.sci.specs.declared.framer.Framer.{Framer}
 use Rattle.sci.specs.declared.status.Status.{Status}
 use Rattle.sci.specs.declared.receiver.Receiver.{Receiver}
@@ -24,6 +26,7 @@ use Rattle.sci.specs.declared.transmitter.Transmitter.{Transmitter}
 use Rattle.sci.specs.declared.transmitter.Sent.{Sent}
 use Rattle.sci.specs.declared.serial.Sci.{Sci}
 use Rattle.sci.proofs.Plain.{first, second, passes, shifts}
+use Rattle.sci.proofs.Counts.{no-frame}
 use Rattle.sci.proofs.Quiet.{plays}
 
 -- What a receiver's rest says.
@@ -111,6 +114,11 @@ hears-nothing r s sccr1 x h =
     with-status : Receiver → Received
     with-status q = record { receiver = q; status = s }
 
+-- Nor does it end a frame.
+counts-nothing : (a : Account) (r : Receiver) (s : Status) (sccr1 : ℕ) (x : Bool) → receiverRests x r (bitsOf (M sccr1)) ≡ true →
+    counting a (outcome r s sccr1 x) ≡ a
+counts-nothing a r s sccr1 x h = no-frame a r s sccr1 x (rw (still x r (bitsOf (M sccr1)) h .search))
+
 -- A free shifter with nothing to send.
 nothing-waits : (over te free preamble empty : Bool) → over ≡ false → not (te && (preamble || not empty)) ≡ true →
     (over || te && free && preamble || te && free && not preamble && not empty) ≡ false
@@ -188,7 +196,10 @@ module _ (s : Sci) (x : Bool) (r : Rest s x) where
   unheard : (re : Bool) → (re ≡ true → receiverRests x (s .receiver) (bitsOf (M (s .sccr1))) ≡ true) →
       heard re (withCount s 0) x ≡ withCount s 0
   unheard true h =
-      ap (afterReceived (withCount s 0)) (hears-nothing (s .receiver) (s .status) (s .sccr1) x (h refl))
+      ap (afterReceived (withCount s 0) (received (s .receiver) (s .status) (s .sccr1) x))
+      (counts-nothing (s .account) (s .receiver) (s .status) (s .sccr1) x (h refl))
+      ∙ ap (λ (q : Received). afterReceived (withCount s 0) q (s .account))
+      (hears-nothing (s .receiver) (s .status) (s .sccr1) x (h refl))
   unheard false h = refl
 
   leaves : sampled s x ≡ withCount s 0

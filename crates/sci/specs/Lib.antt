@@ -5,6 +5,7 @@ pub mod Control
 pub mod Bits
 pub mod Framer
 pub mod Receiver
+pub mod Account
 pub mod Transmitter
 pub mod Serial
 pub mod Marked
@@ -31,3 +32,5 @@ pub mod Instances
 pub mod Clauses
 pub mod Figure
 pub mod Moves
+pub mod Balance
+pub mod Losing

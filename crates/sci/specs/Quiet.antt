@@ -28,6 +28,7 @@ withCount s count =
       prescaler = count;
       receiver = s .receiver;
       transmitter = s .transmitter;
+      account = s .account;
     }
 
 unfoldable pub skipped : ℕ → Sci → Sci

@@ -7,16 +7,18 @@ use Rattle.sci.specs.Flags.{OR, IDLE, RAF, RDRF, TC, TDRE, flag, receive
 use Rattle.sci.specs.Status.{has, fall, markSeen, fallSeen}
 use Rattle.sci.specs.Control.{SCBR, TIE, TCIE, RIE, ILIE, TE, RE, RWU, sccr0Bits, sccr1Bits, settings}
 use Rattle.sci.specs.Framer.{searching}
-use Rattle.sci.specs.Receiver.{startState, received}
+use Rattle.sci.specs.Receiver.{startState, outcome, received}
+use Rattle.sci.specs.Account.{counting}
 use Rattle.sci.specs.Transmitter.{runs, level, sent}
 use Rattle.sci.specs.declared.status.Status.{Status}
 use Rattle.sci.specs.declared.receiver.Receiver.{Receiver}
 use Rattle.sci.specs.declared.receiver.Received.{Received}
 use Rattle.sci.specs.declared.transmitter.Transmitter.{Transmitter}
 use Rattle.sci.specs.declared.transmitter.Sent.{Sent}
+use Rattle.sci.specs.declared.account.Account.{Account}
 use Rattle.sci.specs.declared.serial.Sci.{Sci}
 
--- Values after a reset: SCCR0 0004, SCCR1 0000, SCSR 0180, SCDR 0 on both sides, its noise figure 0; nothing seen.
+-- Values after a reset: SCCR0 0004, SCCR1 0000, SCSR 0180, SCDR 0 on both sides, its noise figure 0; nothing seen, no frame counted.
 abbrev pub resetSci : Sci
 resetSci =
     record {
@@ -37,6 +39,7 @@ resetSci =
             noise = 0;
           };
       transmitter = record { scdr = 0; preamble = false; shift = 0; left = 0 };
+      account = record { taken = 0; lost = 0 };
     }
 
 -- TE or RE is set, or a frame or preamble runs: the prescaler runs and the settings are guarded (the paper's word).
@@ -47,8 +50,8 @@ active s = TE (s .sccr1) || RE (s .sccr1) || runs (s .transmitter)
 abbrev pub due : Sci → Bool
 due s = not (eqb (2 * SCBR (s .sccr0)) 0) && leb (2 * SCBR (s .sccr0)) (s .prescaler + 1)
 
-abbrev pub afterReceived : Sci → Received → Sci
-afterReceived s r =
+abbrev pub afterReceived : Sci → Received → Account → Sci
+afterReceived s r account =
     record {
       sccr0 = s .sccr0;
       sccr1 = s .sccr1;
@@ -56,10 +59,13 @@ afterReceived s r =
       prescaler = s .prescaler;
       receiver = r .receiver;
       transmitter = s .transmitter;
+      account = account;
     }
 
 abbrev pub heard : Bool → Sci → Bool → Sci
-heard true s x = afterReceived s (received (s .receiver) (s .status) (s .sccr1) x)
+heard true s x =
+    afterReceived s (received (s .receiver) (s .status) (s .sccr1) x)
+    (counting (s .account) (outcome (s .receiver) (s .status) (s .sccr1) x))
 heard false s x = s
 
 abbrev pub afterSent : Sci → Sent → Sci
@@ -71,6 +77,7 @@ afterSent s t =
       prescaler = 0;
       receiver = s .receiver;
       transmitter = t .transmitter;
+      account = s .account;
     }
 
 -- On a sample, transmitter before receiver.
@@ -87,6 +94,7 @@ counted s =
       prescaler = min 65535 (s .prescaler + 1);
       receiver = s .receiver;
       transmitter = s .transmitter;
+      account = s .account;
     }
 
 abbrev pub prescaled : Bool → Sci → Bool → Sci
@@ -118,6 +126,7 @@ withStatus s f =
       prescaler = s .prescaler;
       receiver = s .receiver;
       transmitter = s .transmitter;
+      account = s .account;
     }
 
 -- A read of either byte of SCSR.
@@ -143,6 +152,7 @@ withData s w =
             shift = s .transmitter .shift;
             left = s .transmitter .left;
           };
+      account = s .account;
     }
 
 -- A low-byte write keeps bit 8. TDRE and TC fall if seen.
@@ -163,6 +173,7 @@ withSccr0 s v =
       prescaler = 0;
       receiver = s .receiver;
       transmitter = s .transmitter;
+      account = s .account;
     }
 
 abbrev pub sccr0Set : Bool → Sci → ℕ → Sci
@@ -183,6 +194,7 @@ withReceiver s r f =
       prescaler = s .prescaler;
       receiver = r;
       transmitter = s .transmitter;
+      account = s .account;
     }
 
 -- RE clear puts the receiver in its start state, RAF 0; the other flags stay.
@@ -217,6 +229,7 @@ withSccr1 s v =
       prescaler = s .prescaler;
       receiver = withSleep (s .receiver) (RWU v);
       transmitter = withPreamble (s .transmitter) (TE v && (s .transmitter .preamble || not (TE (s .sccr1))));
+      account = s .account;
     }
 
 unfoldable pub wroteSccr1 : Sci → ℕ → Bool → Bool → Sci

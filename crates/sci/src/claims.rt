@@ -10,6 +10,8 @@ ghost use Rattle.sci.specs.Witness.{Met};
 ghost use Rattle.sci.specs.Clauses.{Clauses};
 ghost use Rattle.sci.specs.Figure.{Figures};
 ghost use Rattle.sci.specs.Moves.{Moves};
+ghost use Rattle.sci.specs.Balance.{Balance};
+ghost use Rattle.sci.specs.Losing.{Losing};
 
 // The laws of membership of the flag set.
 fn membership() -> bool
@@ -54,6 +56,15 @@ fn noise_figure() -> bool
 // Ruled out: a move in the stop bit; two moves for one bit; a move after a zero bit; RT8 to RT10 moving.
 fn moving_points() -> bool
     ensures { λ r. ⌜ (r ≡ true) × Moves ⌝ }
+{
+    true
+}
+
+// The account, over every history of the serial half: each frame taken is delivered, waits or is lost; one rise of OR for each run of losses; and
+// histories that lose, sleep and wake.
+// Ruled out: a frame slept through counted; a lost frame left out of those taken; a second rise of OR in a run; a count that wraps.
+fn account() -> bool
+    ensures { λ r. ⌜ (r ≡ true) × Balance × Losing ⌝ }
 {
     true
 }

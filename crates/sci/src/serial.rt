@@ -4,6 +4,9 @@ ghost use Prim.Native.Nat.{_+_, min};
 ghost use Rattle.sci.specs.Control.{sccr0Bits};
 ghost use Rattle.sci.specs.Serial.{resetSci, active, due, sampled, counted, prescaled, clocked, sccr1Word, scsrWord, scdrWord, withStatus, statusRead, dataRead, loaded, dataWritten, withSccr0, sccr0Set, wroteSccr0, stopped, withSccr1, wroteSccr1, sccr0Guarded, sccr1Guarded, txdDriven, txd, asks};
 ghost use Rattle.sci.specs.Plain.{listened};
+ghost use Rattle.sci.specs.Receiver.{outcome};
+ghost use Rattle.sci.specs.Account.{accounted};
+use crate::account::Account;
 use crate::control;
 use crate::flags::Flags;
 use crate::framer::Framer;
@@ -22,6 +25,7 @@ pub struct Sci {
     pub status: Status,
     pub receiver: Receiver,
     pub transmitter: Transmitter,
+    pub account: Account,
 }
 
 impl Sci {
@@ -54,6 +58,7 @@ impl Sci {
                 shift: 0,
                 left: 0,
             },
+            account: Account { taken: 0, lost: 0 },
         }
     }
 
@@ -85,7 +90,10 @@ impl Sci {
         let sent = transmitter.sample(status, self.sccr1);
         let sender = sent.transmitter;
         let flags = sent.status;
-        let received = listened(control::re(self.sccr1), receiver, flags, self.sccr1, x);
+        let re = control::re(self.sccr1);
+        let account = self.account;
+        let account = accounted(re, account, receiver, flags, self.sccr1, x);
+        let received = listened(re, receiver, flags, self.sccr1, x);
         let hearer = received.receiver;
         let after = received.status;
         Sci {
@@ -95,6 +103,7 @@ impl Sci {
             status: after,
             receiver: hearer,
             transmitter: sender,
+            account,
         }
     }
 
@@ -167,6 +176,24 @@ impl Sci {
     {
         let receiver = self.receiver;
         receiver.noise
+    }
+
+    // Frames taken since the last reset, the lost ones with them.
+    // Ruled out: those slept through with them; only those that entered SCDR.
+    pub fn taken(self) -> u32
+        ensures { λ r. ⌜ r ≡ self .account .taken ⌝ }
+    {
+        let account = self.account;
+        account.taken
+    }
+
+    // Frames lost since the last reset.
+    // Ruled out: rises of OR; frames taken.
+    pub fn lost(self) -> u32
+        ensures { λ r. ⌜ r ≡ self .account .lost ⌝ }
+    {
+        let account = self.account;
+        account.lost
     }
 
     fn with_status(mut self, s: Status) -> Sci
@@ -334,6 +361,25 @@ fn listened(re: bool, receiver: Receiver, status: Status, sccr1: u16, x: bool) -
         receiver.sample(status, sccr1, x)
     } else {
         Received { receiver, status }
+    }
+}
+
+// The account after a sample: with RE clear, or where no frame ends, it stays.
+fn accounted(
+    re: bool,
+    account: Account,
+    receiver: Receiver,
+    status: Status,
+    sccr1: u16,
+    x: bool,
+) -> Account
+    ensures { λ r. ⌜ r ≡ accounted re account (outcome receiver status sccr1 x) ⌝ }
+{
+    let framer = receiver.framer;
+    if re & framer.ends() {
+        account.counting(receiver.outcome(status, sccr1, x))
+    } else {
+        account
     }
 }
 

@@ -7,8 +7,10 @@ use Rattle.sci.proofs.serial.Sci.sample.Tie as tie
 returns : tie.Need-returns
 unfolding sampled
 returns c =
-    rw (c .before .before .listened .ensures, c .before .before .before .re .ensures, c .before .before .before .before .before .before .sample .ensures)
-    (samples (c .before .before .before .before .before .before .before .before .before .before .args .self) (c .before .before .before .before .before .before .before .before .before .before .args .x))
+    let a : _ = c .before .before .before .before .before .before .before .before .before .before .before .before .args in
+    rw (c .before .before .listened .ensures, c .before .before .before .accounted .ensures, c .before .before .before .before .before .re .ensures, c .before .before .before .before .before .before .before .before .sample .ensures)
+    (samples (a .self) (a .x))
 
 pub sample-spec : {M : Type 1} → statement M
-sample-spec = tie.close (tie.spec (λ c κs. search needs) (λ c κs. search needs) (λ c κs. search needs) returns)
+sample-spec =
+    tie.close (tie.spec (λ c κs. search needs) (λ c κs. search needs) (λ c κs. search needs) (λ c κs. search needs) returns)
