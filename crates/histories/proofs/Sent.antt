@@ -91,6 +91,7 @@ sending =
       prescaler = 1;
       receiver = resetSci .receiver;
       transmitter = record { scdr = 0x55; preamble = false; shift = 1; left = 1 };
+      account = resetSci .account;
     }
 
 abbrev pub listening : Sci

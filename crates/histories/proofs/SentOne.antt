@@ -168,6 +168,7 @@ sentOne =
       prescaler = 0;
       receiver = resetSci .receiver;
       transmitter = record { scdr = 0x2A; preamble = false; shift = 1; left = 6 };
+      account = resetSci .account;
     }
 
 abbrev pub heardOne : Sci

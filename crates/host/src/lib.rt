@@ -1,4 +1,5 @@
-// A module that a host keeps and changes in place: each entry copies the state, calls the step by value and stores the result. `noise` only looks.
+// A module that a host keeps and changes in place: each entry copies the state, calls the step by value and stores the result. `noise`, `taken` and `lost`
+// only look.
 ghost use mathlib.Core.Path.{_≡_};
 ghost use Rattle.qsm.specs.Event.{answered, resets};
 ghost use Rattle.qsm.specs.declared.event.Event.the-variants.{Reset, Hold};
@@ -74,4 +75,22 @@ pub fn noise(m: &Module) -> u8
 {
     let s = *m;
     s.noise()
+}
+
+// Frames taken since the last reset, of a module that is only looked at.
+// Ruled out: only those that entered SCDR; those lost.
+pub fn taken(m: &Module) -> u32
+    ensures { λ r. ⌜ r ≡ now (m .entry) .sci .account .taken ⌝ }
+{
+    let s = *m;
+    s.taken()
+}
+
+// Frames lost since the last reset, of a module that is only looked at.
+// Ruled out: rises of OR; frames taken.
+pub fn lost(m: &Module) -> u32
+    ensures { λ r. ⌜ r ≡ now (m .entry) .sci .account .lost ⌝ }
+{
+    let s = *m;
+    s.lost()
 }
