@@ -82,6 +82,7 @@ atStop =
             noise = 0;
           };
       transmitter = resetSci .transmitter;
+      account = resetSci .account;
     })
 
 abbrev pub NoisyWord : Type 0

@@ -1,0 +1,37 @@
+-- Document 02, L14, of the module: frames taken equal words delivered, plus the one waiting, plus frames lost, counted from the history since a
+-- reset by demand 3's marks.
+use mathlib.Core.Bool.{false}
+use mathlib.Core.List.{List, _∷_, _++_}
+use mathlib.Core.Path.{_≡_}
+use Prim.Native.Nat.{_+_, _≤_, min}
+use Rattle.steps.specs.Bits.{digit}
+use Rattle.sci.specs.Account.{most}
+use Rattle.sci.specs.Overrun.{Mark, hasReset}
+use Rattle.sci.specs.Balance.{takenIn, lostIn, deliveredIn, OneRise}
+use Rattle.qsm.specs.State.{resetModule}
+use Rattle.qsm.specs.declared.state.Module.{Module}
+use Rattle.qsm.specs.declared.event.Event.{Event}
+use Rattle.qsm.specs.declared.event.Event.the-variants.{Reset}
+use Rattle.histories.specs.History.{run, log}
+use Rattle.account.specs.Report.{report}
+use Rattle.account.specs.declared.Report.{Report}
+
+-- The marks of a history, and the report at its end.
+pub record Balanced (h : List Mark) (r : Report) : Type 0 where
+  pub balance : takenIn h ≡ deliveredIn h + digit (r .waiting) + lostIn h
+  -- Each count is the history's; at 2^32 - 1 it stays.
+  pub taken : r .taken ≡ min most (takenIn h)
+  pub lost : r .lost ≡ min most (lostIn h)
+  -- So the report itself balances, unless the history passes that.
+  pub reported : takenIn h ≤ most → r .taken ≡ deliveredIn h + digit (r .waiting) + r .lost
+
+-- Whatever the module did before, a reset, and then events with no reset among them.
+abbrev pub SinceReset : Type 0
+SinceReset =
+    (m : Module) (before es : List Event) → hasReset (log es resetModule) ≡ false →
+    Balanced (log es resetModule) (report (run (before ++ (Reset ∷ es)) m))
+
+-- Each run of losses has one rise of OR, with its first frame, resets among the events or not.
+pub record Accounted : Type 0 where
+  pub sinceReset : SinceReset
+  pub oneRise : (es : List Event) → OneRise (log es resetModule)
