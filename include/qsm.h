@@ -129,6 +129,11 @@ struct qsm_transmitter {
     uint16_t scdr;  /* SCDR as it is written */
 };
 
+struct qsm_account {
+    uint32_t taken; /* frames taken since the last reset, the lost ones with them */
+    uint32_t lost;
+};
+
 struct qsm_sci {
     uint16_t sccr0;
     uint16_t sccr1;     /* without RWU */
@@ -136,6 +141,7 @@ struct qsm_sci {
     struct qsm_status status;
     struct qsm_receiver receiver;
     struct qsm_transmitter transmitter;
+    struct qsm_account account;
 };
 
 struct qsm_registers {
@@ -461,6 +467,12 @@ struct qsm_found {
 struct qsm_indexed qsm_index_build(const uint8_t *trace, size_t length, uint64_t *marks, size_t room);
 struct qsm_indexed qsm_index_extend(const uint8_t *trace, size_t length, uint64_t *marks, size_t room, size_t count);
 struct qsm_found qsm_index_find(const uint8_t *trace, size_t length, const uint64_t *marks, size_t room, size_t count, uint64_t number);
+ * The account of characters since the last reset: frames taken, and those of them that were lost because a character waited in SCDR or OR was
+ * set. A frame slept through is not taken. So taken is the characters read, plus one if RDRF is set, plus lost. A count stays at
+ * 4,294,967,295. The module is only looked at.
+ */
+uint32_t qsm_taken(const struct qsm *m);
+uint32_t qsm_lost(const struct qsm *m);
 
 #ifdef __cplusplus
 }
@@ -489,8 +501,10 @@ QSM_AT(qsm_receiver, last2, 15, 1); QSM_AT(qsm_receiver, last3, 16, 1); QSM_AT(q
 QSM_AT(qsm_receiver, asleep, 18, 1);
 QSM_STRUCT(qsm_transmitter, 2, 6); QSM_AT(qsm_transmitter, preamble, 0, 1); QSM_AT(qsm_transmitter, left, 1, 1);
 QSM_AT(qsm_transmitter, shift, 2, 2); QSM_AT(qsm_transmitter, scdr, 4, 2);
-QSM_STRUCT(qsm_sci, 2, 36); QSM_AT(qsm_sci, sccr0, 0, 2); QSM_AT(qsm_sci, sccr1, 2, 2); QSM_AT(qsm_sci, prescaler, 4, 2);
+QSM_STRUCT(qsm_account, 4, 8); QSM_AT(qsm_account, taken, 0, 4); QSM_AT(qsm_account, lost, 4, 4);
+QSM_STRUCT(qsm_sci, 4, 44); QSM_AT(qsm_sci, sccr0, 0, 2); QSM_AT(qsm_sci, sccr1, 2, 2); QSM_AT(qsm_sci, prescaler, 4, 2);
 QSM_AT(qsm_sci, status, 6, 4); QSM_AT(qsm_sci, receiver, 10, 20); QSM_AT(qsm_sci, transmitter, 30, 6);
+QSM_AT(qsm_sci, account, 36, 8);
 QSM_STRUCT(qsm_registers, 2, 8); QSM_AT(qsm_registers, spcr3, 0, 1); QSM_AT(qsm_registers, spcr0, 2, 2);
 QSM_AT(qsm_registers, spcr1, 4, 2); QSM_AT(qsm_registers, spcr2, 6, 2);
 QSM_STRUCT(qsm_spsr_flags, 1, 3); QSM_AT(qsm_spsr_flags, spif, 0, 1); QSM_AT(qsm_spsr_flags, modf, 1, 1);
@@ -506,6 +520,9 @@ QSM_AT(qsm_qspi, next, 96, 4); QSM_AT(qsm_qspi, entry, 100, 14);
 QSM_STRUCT(qsm, 8, 168); QSM_AT(qsm, sci, 0, 36); QSM_AT(qsm, qspi, 36, 114); QSM_AT(qsm, qsmcr, 150, 2);
 QSM_AT(qsm, qilr, 152, 1); QSM_AT(qsm, qivr, 153, 1); QSM_AT(qsm, portqs, 154, 1); QSM_AT(qsm, pqspar, 155, 1);
 QSM_AT(qsm, ddrqs, 156, 1); QSM_AT(qsm, inputs, 157, 1); QSM_AT(qsm, clock, 160, 8);
+QSM_STRUCT(qsm, 4, 168); QSM_AT(qsm, sci, 0, 44); QSM_AT(qsm, qspi, 44, 114); QSM_AT(qsm, qsmcr, 158, 2);
+QSM_AT(qsm, qilr, 160, 1); QSM_AT(qsm, qivr, 161, 1); QSM_AT(qsm, portqs, 162, 1); QSM_AT(qsm, pqspar, 163, 1);
+QSM_AT(qsm, ddrqs, 164, 1); QSM_AT(qsm, inputs, 165, 1);
 QSM_STRUCT(qsm_played, 8, 192); QSM_AT(qsm_played, state, 0, 168); QSM_AT(qsm_played, read, 168, 8);
 QSM_AT(qsm_played, written, 176, 8); QSM_AT(qsm_played, stop, 184, 1);
 QSM_STRUCT(qsm_compared, 8, 32); QSM_AT(qsm_compared, count, 0, 8); QSM_AT(qsm_compared, refusal, 8, 1);

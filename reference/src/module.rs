@@ -98,6 +98,16 @@ impl Module {
         self.sci.noise()
     }
 
+    /// Frames taken since the last reset, the lost ones with them.
+    pub fn taken(&self) -> u32 {
+        self.sci.taken()
+    }
+
+    /// Frames lost since the last reset.
+    pub fn lost(&self) -> u32 {
+        self.sci.lost()
+    }
+
     /// Holds pin levels and RXD (nonzero is one) for a number of clocks, unless the count of clocks would pass its end.
     pub fn hold(&mut self, pins: u8, rxd: u8, clocks: u32) -> Answer {
         let Some(clock) = self.clock.checked_add(u64::from(clocks)) else {

@@ -14,6 +14,9 @@ pub struct Sci {
     /// The read side of SCDR, and the noise figure of its word.
     received: u16,
     noise: u8,
+    /// Frames taken and frames lost since the last reset.
+    taken: u32,
+    lost: u32,
     /// Clocks since the last sample or the restart.
     prescaler: u16,
     transmitter: Transmitter,
@@ -28,6 +31,8 @@ impl Sci {
             scsr: Flags::new(TDRE | TC),
             received: 0,
             noise: 0,
+            taken: 0,
+            lost: 0,
             prescaler: 0,
             transmitter: Transmitter::default(),
             receiver: Receiver::default(),
@@ -42,6 +47,16 @@ impl Sci {
     /// The noise figure of the word in SCDR.
     pub fn noise(&self) -> u8 {
         self.noise
+    }
+
+    /// Frames taken since the last reset, the lost ones with them.
+    pub fn taken(&self) -> u32 {
+        self.taken
+    }
+
+    /// Frames lost since the last reset.
+    pub fn lost(&self) -> u32 {
+        self.lost
     }
 
     pub fn asks(&self) -> bool {
@@ -188,7 +203,9 @@ impl Sci {
 
     /// A frame that finds RDRF or OR set is lost.
     fn take(&mut self, frame: Frame) {
+        self.taken = self.taken.saturating_add(1);
         if self.scsr.any(RDRF | OR) {
+            self.lost = self.lost.saturating_add(1);
             self.scsr.rise(OR);
             return;
         }

@@ -31,6 +31,8 @@ use settings::Changed;
 use settings::Given;
 use settings::records::Edition;
 
+pub mod account;
+
 // The module after a trace, the bytes read and written, and the refusal that stopped it, or 0.
 #[repr(C)]
 pub struct Played {

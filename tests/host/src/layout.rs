@@ -20,7 +20,10 @@ layout!(Receiver, 2, 20;
     framer 0, scdr 10, noise 12, since 13, last1 14, last2 15, last3 16, idle 17, asleep 18,
 );
 layout!(Transmitter, 2, 6; preamble 0, left 1, shift 2, scdr 4);
-layout!(Sci, 2, 36; sccr0 0, sccr1 2, prescaler 4, status 6, receiver 10, transmitter 30);
+layout!(Account, 4, 8; taken 0, lost 4);
+layout!(Sci, 4, 44;
+    sccr0 0, sccr1 2, prescaler 4, status 6, receiver 10, transmitter 30, account 36,
+);
 layout!(Registers, 2, 8; spcr3 0, spcr0 2, spcr1 4, spcr2 6);
 layout!(SpsrFlags, 1, 3; spif 0, modf 1, halta 2);
 layout!(Spsr, 1, 7; flags 0, seen 3, cptqp 6);
@@ -34,6 +37,8 @@ layout!(Qspi, 2, 114; registers 0, spsr 8, ram 16, next 96, entry 100);
 layout!(Module, 8, 168;
     sci 0, qspi 36, qsmcr 150, qilr 152, qivr 153, portqs 154, pqspar 155, ddrqs 156, inputs 157,
     clock 160,
+layout!(Module, 4, 168;
+    sci 0, qspi 44, qsmcr 158, qilr 160, qivr 161, portqs 162, pqspar 163, ddrqs 164, inputs 165,
 );
 layout!(Played, 8, 192; state 0, read 168, written 176, stop 184);
 layout!(Compared, 8, 32; count 0, refusal 8, second 9, start 16, length 24);

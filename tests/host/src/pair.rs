@@ -83,6 +83,11 @@ impl Pair {
             self.library.noise(),
             self.reference.noise(),
         )?;
+        same(
+            || format!("the frames taken and lost after {event:X?}"),
+            (self.library.taken(), self.library.lost()),
+            (self.reference.taken(), self.reference.lost()),
+        )?;
         Ok(reference)
     }
 

@@ -59,6 +59,11 @@ c_struct!(Transmitter {
     scdr: u16,
 });
 
+c_struct!(Account {
+    taken: u32,
+    lost: u32,
+});
+
 c_struct!(Sci {
     sccr0: u16,
     sccr1: u16,
@@ -66,6 +71,7 @@ c_struct!(Sci {
     status: Status,
     receiver: Receiver,
     transmitter: Transmitter,
+    account: Account,
 });
 
 c_struct!(Registers {
@@ -253,6 +259,8 @@ extern "C" {
     fn qsm_write(m: *mut Module, supervisor: bool, width: u8, offset: u16, value: u32) -> Answer;
     fn qsm_noise(m: *const Module) -> u8;
     fn qsm_until_change(m: Module, pins: u8, rxd: bool) -> u32;
+    fn qsm_taken(m: *const Module) -> u32;
+    fn qsm_lost(m: *const Module) -> u32;
     fn qsm_play(m: Module, trace: *const u8, length: usize, log: *mut u8, room: usize) -> Played;
     fn qsm_compare(
         first: *const u8,
@@ -344,6 +352,16 @@ impl Module {
             0 => None,
             clocks => Some(clocks),
         }
+    /// Frames taken since the last reset, the lost ones with them.
+    pub fn taken(&self) -> u32 {
+        // SAFETY: as said above.
+        unsafe { qsm_taken(self) }
+    }
+
+    /// Frames lost since the last reset.
+    pub fn lost(&self) -> u32 {
+        // SAFETY: as said above.
+        unsafe { qsm_lost(self) }
     }
 
     pub fn play(self, trace: &[u8], log: &mut [u8]) -> Played {

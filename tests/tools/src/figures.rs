@@ -3,7 +3,7 @@
 use crate::Printed;
 use host::qsm::{Module, ANSWER};
 
-/// A line for each record answered: the noise figure of the word in SCDR, then frames taken and frames lost, which are not counted yet.
+/// A line for each record answered: the noise figure of the word in SCDR, then frames taken and frames lost since the last reset.
 pub fn figures() -> Printed {
     let trace = crate::standard_input()?;
     let mut module = Module::new();
@@ -16,6 +16,7 @@ pub fn figures() -> Printed {
         }
         at += played.read;
         module = played.state;
-        lines += &format!("{} - -\n", module.noise());
+        let (noise, taken, lost) = (module.noise(), module.taken(), module.lost());
+        lines += &format!("{noise} {taken} {lost}\n");
     }
 }

@@ -1,4 +1,5 @@
 -- The walk of `host`'s `Look`, at the noise figure.
+use mir.Syntax.{w8}
 use Rattle.qsm.specs.declared.state.Module.{Module}
 use Rattle.qsm.proofs.state.Module.noise.Symbol as called-def
 use Rattle.qsm.proofs.state.Module.noise.Met as called-thm
@@ -10,5 +11,5 @@ use Rattle.qsm_c.proofs.qsm_noise.Code as code
 pub qsm-noise-spec : {M : Type 1} → stated.statement M
 unfolding code.routine
 qsm-noise-spec 𝓤 H 𝓜 𝓖 𝓡 =
-    looks-at (λ (m : Module). m .sci .receiver .noise) 𝓤 H 𝓜 𝓖 𝓡 code.env key.name called-def.name called-def.routine
+    looks-at w8 (λ (m : Module). m .sci .receiver .noise) 𝓤 H 𝓜 𝓖 𝓡 code.env key.name called-def.name called-def.routine
     (code.unfolded 𝓤 H 𝓜 𝓡) code.calls-qsm·state·Module·noise (called-thm.met 𝓤 H 𝓜 𝓖 𝓡)
