@@ -15,10 +15,9 @@ ghost use Rattle.qsm_c.specs.Play.{Plays};
 ghost use Rattle.qsm_c.specs.Version.{version};
 
 mod changes;
+mod index;
 mod lines;
 mod shared;
-
-mod index;
 
 use comparison::Compared;
 use planner::Plan;
