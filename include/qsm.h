@@ -273,9 +273,9 @@ struct qsm_plan_put {
 /*
  * The version of `struct qsm` that the archive has, which is QSM_VERSION of its header. A struct that was saved belongs to one version: keep
  * the number with it, and don't hand it to another's calls. 2 came with the noise figure and moving points, 3 with the clocks
- * since reset.
+ * since reset, 4 with the account of frames.
  */
-#define QSM_VERSION 3
+#define QSM_VERSION 4
 uint32_t qsm_version(void);
 
 /* A module fresh from reset. */
@@ -467,6 +467,8 @@ struct qsm_found {
 struct qsm_indexed qsm_index_build(const uint8_t *trace, size_t length, uint64_t *marks, size_t room);
 struct qsm_indexed qsm_index_extend(const uint8_t *trace, size_t length, uint64_t *marks, size_t room, size_t count);
 struct qsm_found qsm_index_find(const uint8_t *trace, size_t length, const uint64_t *marks, size_t room, size_t count, uint64_t number);
+
+/*
  * The account of characters since the last reset: frames taken, and those of them that were lost because a character waited in SCDR or OR was
  * set. A frame slept through is not taken. So taken is the characters read, plus one if RDRF is set, plus lost. A count stays at
  * 4,294,967,295. The module is only looked at.
@@ -517,14 +519,11 @@ QSM_AT(qsm_entry, delaying, 4, 1); QSM_AT(qsm_entry, halted, 5, 1); QSM_AT(qsm_e
 QSM_AT(qsm_entry, mosi, 9, 1); QSM_AT(qsm_entry, collected, 10, 2); QSM_AT(qsm_entry, selecting, 12, 1);
 QSM_STRUCT(qsm_qspi, 2, 114); QSM_AT(qsm_qspi, registers, 0, 8); QSM_AT(qsm_qspi, spsr, 8, 7); QSM_AT(qsm_qspi, ram, 16, 80);
 QSM_AT(qsm_qspi, next, 96, 4); QSM_AT(qsm_qspi, entry, 100, 14);
-QSM_STRUCT(qsm, 8, 168); QSM_AT(qsm, sci, 0, 36); QSM_AT(qsm, qspi, 36, 114); QSM_AT(qsm, qsmcr, 150, 2);
-QSM_AT(qsm, qilr, 152, 1); QSM_AT(qsm, qivr, 153, 1); QSM_AT(qsm, portqs, 154, 1); QSM_AT(qsm, pqspar, 155, 1);
-QSM_AT(qsm, ddrqs, 156, 1); QSM_AT(qsm, inputs, 157, 1); QSM_AT(qsm, clock, 160, 8);
-QSM_STRUCT(qsm, 4, 168); QSM_AT(qsm, sci, 0, 44); QSM_AT(qsm, qspi, 44, 114); QSM_AT(qsm, qsmcr, 158, 2);
+QSM_STRUCT(qsm, 8, 176); QSM_AT(qsm, sci, 0, 44); QSM_AT(qsm, qspi, 44, 114); QSM_AT(qsm, qsmcr, 158, 2);
 QSM_AT(qsm, qilr, 160, 1); QSM_AT(qsm, qivr, 161, 1); QSM_AT(qsm, portqs, 162, 1); QSM_AT(qsm, pqspar, 163, 1);
-QSM_AT(qsm, ddrqs, 164, 1); QSM_AT(qsm, inputs, 165, 1);
-QSM_STRUCT(qsm_played, 8, 192); QSM_AT(qsm_played, state, 0, 168); QSM_AT(qsm_played, read, 168, 8);
-QSM_AT(qsm_played, written, 176, 8); QSM_AT(qsm_played, stop, 184, 1);
+QSM_AT(qsm, ddrqs, 164, 1); QSM_AT(qsm, inputs, 165, 1); QSM_AT(qsm, clock, 168, 8);
+QSM_STRUCT(qsm_played, 8, 200); QSM_AT(qsm_played, state, 0, 176); QSM_AT(qsm_played, read, 176, 8);
+QSM_AT(qsm_played, written, 184, 8); QSM_AT(qsm_played, stop, 192, 1);
 QSM_STRUCT(qsm_compared, 8, 32); QSM_AT(qsm_compared, count, 0, 8); QSM_AT(qsm_compared, refusal, 8, 1);
 QSM_AT(qsm_compared, second, 9, 1); QSM_AT(qsm_compared, start, 16, 8); QSM_AT(qsm_compared, length, 24, 8);
 QSM_STRUCT(qsm_edition, 2, 10); QSM_AT(qsm_edition, number, 0, 2); QSM_AT(qsm_edition, sccr0, 2, 2); QSM_AT(qsm_edition, sccr1, 4, 2);
@@ -542,13 +541,13 @@ QSM_STRUCT(qsm_plan_put, 4, 8); QSM_AT(qsm_plan_put, value, 0, 4); QSM_AT(qsm_pl
 QSM_AT(qsm_plan_put, width, 6, 1);
 QSM_STRUCT(qsm_line, 8, 144); QSM_AT(qsm_line, number, 0, 8); QSM_AT(qsm_line, cause, 8, 1); QSM_AT(qsm_line, count, 9, 1);
 QSM_AT(qsm_line, characters, 10, 128);
-QSM_STRUCT(qsm_lines, 8, 328); QSM_AT(qsm_lines, at, 0, 8); QSM_AT(qsm_lines, left, 8, 4); QSM_AT(qsm_lines, since, 12, 2);
-QSM_AT(qsm_lines, pins, 14, 1); QSM_AT(qsm_lines, rxd, 15, 1); QSM_AT(qsm_lines, line, 16, 144); QSM_AT(qsm_lines, device, 160, 168);
-QSM_STRUCT(qsm_lines_told, 8, 344); QSM_AT(qsm_lines_told, state, 0, 328); QSM_AT(qsm_lines_told, number, 328, 8);
-QSM_AT(qsm_lines_told, kind, 336, 1); QSM_AT(qsm_lines_told, length, 337, 1); QSM_AT(qsm_lines_told, cause, 338, 1);
-QSM_AT(qsm_lines_told, refusal, 339, 1);
-QSM_STRUCT(qsm_drivers, 8, 176); QSM_AT(qsm_drivers, qsm, 0, 168); QSM_AT(qsm_drivers, split, 168, 1);
-QSM_AT(qsm_drivers, holder, 169, 1);
+QSM_STRUCT(qsm_lines, 8, 336); QSM_AT(qsm_lines, at, 0, 8); QSM_AT(qsm_lines, left, 8, 4); QSM_AT(qsm_lines, since, 12, 2);
+QSM_AT(qsm_lines, pins, 14, 1); QSM_AT(qsm_lines, rxd, 15, 1); QSM_AT(qsm_lines, line, 16, 144); QSM_AT(qsm_lines, device, 160, 176);
+QSM_STRUCT(qsm_lines_told, 8, 352); QSM_AT(qsm_lines_told, state, 0, 336); QSM_AT(qsm_lines_told, number, 336, 8);
+QSM_AT(qsm_lines_told, kind, 344, 1); QSM_AT(qsm_lines_told, length, 345, 1); QSM_AT(qsm_lines_told, cause, 346, 1);
+QSM_AT(qsm_lines_told, refusal, 347, 1);
+QSM_STRUCT(qsm_drivers, 8, 184); QSM_AT(qsm_drivers, qsm, 0, 176); QSM_AT(qsm_drivers, split, 176, 1);
+QSM_AT(qsm_drivers, holder, 177, 1);
 QSM_STRUCT(qsm_indexed, 8, 40); QSM_AT(qsm_indexed, marks, 0, 8); QSM_AT(qsm_indexed, records, 8, 8); QSM_AT(qsm_indexed, place, 16, 8);
 QSM_AT(qsm_indexed, resets, 24, 8); QSM_AT(qsm_indexed, stop, 32, 1); QSM_AT(qsm_indexed, refusal, 33, 1);
 QSM_STRUCT(qsm_found, 8, 32); QSM_AT(qsm_found, place, 0, 8); QSM_AT(qsm_found, resets, 8, 8); QSM_AT(qsm_found, walked, 16, 8);

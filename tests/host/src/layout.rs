@@ -34,13 +34,11 @@ layout!(Entry, 2, 14;
     selecting 12,
 );
 layout!(Qspi, 2, 114; registers 0, spsr 8, ram 16, next 96, entry 100);
-layout!(Module, 8, 168;
-    sci 0, qspi 36, qsmcr 150, qilr 152, qivr 153, portqs 154, pqspar 155, ddrqs 156, inputs 157,
-    clock 160,
-layout!(Module, 4, 168;
+layout!(Module, 8, 176;
     sci 0, qspi 44, qsmcr 158, qilr 160, qivr 161, portqs 162, pqspar 163, ddrqs 164, inputs 165,
+    clock 168,
 );
-layout!(Played, 8, 192; state 0, read 168, written 176, stop 184);
+layout!(Played, 8, 200; state 0, read 176, written 184, stop 192);
 layout!(Compared, 8, 32; count 0, refusal 8, second 9, start 16, length 24);
 layout!(Indexed, 8, 40; marks 0, records 8, place 16, resets 24, stop 32, refusal 33);
 layout!(Found, 8, 32; place 0, resets 8, walked 16, refusal 24);
@@ -54,6 +52,6 @@ layout!(Plan, 8, 72;
 layout!(Planned, 8, 80; plan 0, refusal 72);
 layout!(Put, 4, 8; value 0, offset 4, width 6);
 layout!(Line, 8, 144; number 0, cause 8, count 9, characters 10);
-layout!(Lines, 8, 328; at 0, left 8, since 12, pins 14, rxd 15, line 16, device 160);
-layout!(LinesTold, 8, 344; state 0, number 328, kind 336, length 337, cause 338, refusal 339);
-layout!(Drivers, 8, 176; qsm 0, split 168, holder 169);
+layout!(Lines, 8, 336; at 0, left 8, since 12, pins 14, rxd 15, line 16, device 160);
+layout!(LinesTold, 8, 352; state 0, number 336, kind 344, length 345, cause 346, refusal 347);
+layout!(Drivers, 8, 184; qsm 0, split 176, holder 177);

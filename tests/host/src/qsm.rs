@@ -222,7 +222,7 @@ c_struct!(Put {
 pub const ANSWER: usize = 18;
 
 /// The version that these structs are of, `QSM_VERSION` in the header.
-pub const VERSION: u32 = 3;
+pub const VERSION: u32 = 4;
 
 c_struct!(Line {
     number: u64,
@@ -352,6 +352,8 @@ impl Module {
             0 => None,
             clocks => Some(clocks),
         }
+    }
+
     /// Frames taken since the last reset, the lost ones with them.
     pub fn taken(&self) -> u32 {
         // SAFETY: as said above.

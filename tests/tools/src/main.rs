@@ -6,8 +6,8 @@ mod compare;
 mod drivers;
 mod editions;
 mod figures;
-mod lines;
 mod index;
+mod lines;
 mod plan;
 mod plans;
 mod play;
@@ -39,10 +39,8 @@ pub fn number(word: &str) -> Result<usize, String> {
     word.parse().map_err(|_| format!("no number: {word}"))
 }
 
-const USAGE: &str =
-    "usage: tools play [ROOM] | compare FILE_A FILE_B ROOM | figures | editions | lines PERIOD ROOM | check | plan | plans REPLAY COUNT SEED";
-    "usage: tools play [ROOM] | compare FILE_A FILE_B ROOM | figures | editions | drivers | check | plan | plans REPLAY COUNT SEED";
-    "usage: tools play [ROOM] | compare FILE_A FILE_B ROOM | figures | editions | index MARKS | find TRACE NUMBER | check | plan | plans REPLAY COUNT SEED";
+const USAGE: &str = "usage: tools play [ROOM] | compare FILE_A FILE_B ROOM | figures | editions \
+    | lines PERIOD ROOM | index MARKS | find TRACE NUMBER | drivers | check | plan | plans REPLAY COUNT SEED";
 
 fn run(words: &[&str]) -> Printed {
     match words {
