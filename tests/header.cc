@@ -61,6 +61,8 @@ int main()
     expect(differ.refusal == QSM_NO_ROOM && differ.count == 0 && list[0] == 9, "one number is too few, and stays");
     differ = qsm_compare(older, 10, newer, 21, list, 0);
     expect(differ.refusal == QSM_CUT_RECORD && !differ.second && differ.length == 0, "a cut log is refused first");
+    differ = qsm_compare(older, 9, log, 18, list, 1);
+    expect(differ.refusal == QSM_UNKNOWN_KIND && differ.count == 0 && !differ.second && list[0] == 9, "kinds 10 and 11 are refused before that");
 
     static const uint8_t resets[] = {1, 1, 3};
     uint64_t marks[2] = {9, 9};
