@@ -1,7 +1,6 @@
 pub mod Params
 pub mod Block
 pub mod Structs
-pub mod Leaving
 pub mod Events
 pub mod Shape
 pub mod Entry
