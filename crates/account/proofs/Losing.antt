@@ -1,7 +1,7 @@
 -- The lists of specs/Losing, by their steps, which are those of the serial half's.
 use mathlib.Core.Bool.{Bool, true, false}
 use mathlib.Core.List.{List}
-use mathlib.Core.Path.{_≡_, refl, ap, sym, subst, _∙_}
+use mathlib.Core.Path.{_≡_, refl, ap, subst, _∙_}
 use Prim.Native.Nat.{ℕ, _+_}
 use native.Mathlib.Omega.{arith}
 use Rattle.steps.specs.Bits.{digit}
@@ -22,6 +22,7 @@ use Rattle.qsm.specs.Decision.{admitted, decideRead, storedBy, decideStored, de
 use Rattle.qsm.specs.Event.{does}
 use Rattle.qsm.specs.Event as events
 use Rattle.histories.specs.History.{run, log}
+use Rattle.histories.proofs.Room.{since-plain}
 use Rattle.histories.proofs.Lifted.{all}
 use Rattle.account.specs.Report.{report}
 use Rattle.account.specs.Accounted.{Balanced}
@@ -31,15 +32,15 @@ use Rattle.account.proofs.Lifting.{log-steps, balanced}
 
 same-unread : all unread resetModule ≡ half.unread
 unfolding resetModule does events.writes events.refused decideWrite decideStored decideRead admitted inMap isRestricted decode storedBy stored store iterate put unmodelled guarded putSerial serialUnmodelled serialGuarded wroteSccr0 wroteSccr1 sccr0Guarded sccr1Guarded
-same-unread = refl
+same-unread = since-plain unread (omega arith)
 
 same-asleep : all asleep resetModule ≡ half.asleep
 unfolding resetModule does events.writes events.refused decideWrite decideStored decideRead admitted inMap isRestricted decode storedBy stored store iterate put unmodelled guarded putSerial serialUnmodelled serialGuarded wroteSccr0 wroteSccr1 sccr0Guarded sccr1Guarded
-same-asleep = refl
+same-asleep = since-plain asleep (omega arith)
 
 same-addressed : all addressed resetModule ≡ half.addressed
 unfolding resetModule does events.writes events.refused decideWrite decideStored decideRead admitted inMap isRestricted decode storedBy stored store iterate put unmodelled guarded putSerial serialUnmodelled serialGuarded wroteSccr0 wroteSccr1 sccr0Guarded sccr1Guarded
-same-addressed = refl
+same-addressed = since-plain addressed (omega arith)
 
 loses : log unread resetModule ≡ marks.log half.unread resetSci
 loses = log-steps unread ∙ ap (λ (es : List Step). marks.log es resetSci) same-unread
