@@ -14,10 +14,10 @@ ghost use Rattle.settings.specs.Editions.{add, withdraw, get, newest, Changes};
 ghost use Rattle.qsm_c.specs.Play.{Plays};
 ghost use Rattle.qsm_c.specs.Version.{version};
 
-mod changes;
 mod index;
 mod lines;
 mod shared;
+mod until;
 
 use comparison::Compared;
 use planner::Plan;
