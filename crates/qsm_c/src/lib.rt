@@ -14,6 +14,7 @@ ghost use Rattle.settings.specs.Editions.{add, withdraw, get, newest, Changes};
 ghost use Rattle.qsm_c.specs.Play.{Plays};
 ghost use Rattle.qsm_c.specs.Version.{version};
 
+mod account;
 mod index;
 mod lines;
 mod shared;
