@@ -31,8 +31,6 @@ use settings::Changed;
 use settings::Given;
 use settings::records::Edition;
 
-pub mod account;
-
 // The module after a trace, the bytes read and written, and the refusal that stopped it, or 0.
 #[repr(C)]
 pub struct Played {
