@@ -308,6 +308,7 @@ uint8_t qsm_noise(const struct qsm *m);
 /*
  * How long a host can sleep: at these levels of the pins and of RXD, the least number of clocks after which an answer would show other
  * levels, another mask, level or vector than one now; 0 if no hold, however long, would show that. The module is a copy, and stays as it is.
+ * A hold of so many clocks is refused QSM_CLOCK_LIMIT like any other.
  */
 uint32_t qsm_until_change(struct qsm m, uint8_t pins, bool rxd);
 

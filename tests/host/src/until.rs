@@ -20,6 +20,10 @@ fn first_change(pair: &Pair, pins: u8, rxd: bool) -> Option<u32> {
 }
 
 pub fn check(random: &mut Random, pair: &Pair) -> Result<(), Difference> {
+    // Near the end of the count of clocks holds are refused, and nothing is shown clock by clock.
+    if pair.library.clock.checked_add(u64::from(CLOCKS)).is_none() {
+        return Ok(());
+    }
     for rxd in [false, true] {
         let pins = random.some(0xFF) as u8;
         let library = pair.library.until_change(pins, rxd);
