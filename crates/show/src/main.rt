@@ -52,6 +52,7 @@ The refusals of an answer, each of which has changed nothing in the module:
   2 (unmapped)        a byte that is not in the register map
   3 (unmodelled bit)  a write sets a bit that is not modelled, BITS 1 to 7, or SPE with MSTR clear
   4 (guarded field)   a write changes a guarded field while its half of the module is on
+  9 (not yours)       a driver that shares the module's queue has no right to what it asks
 What is no log or no trace is reported on standard error, with its number from 0 and its
 place in bytes; what came before it is printed.
 ",
