@@ -53,12 +53,12 @@ module _ (out : List ℕ) (put : ℕ) (bs : List ℕ) (n : ℕ) (is : length bs 
 pub has-room : (out : List ℕ) (put n : ℕ) → n ≤ length out - put → n ≤ length (take (length out - put) (drop put out))
 has-room out put n h = simp (length-take-le (length out - put) (drop put out) (simp length-drop (omega arith))) h
 
-flatten-snoc : (rs : List (List ℕ)) (r : List ℕ) → length (flatten (rs ++ (r ∷ []))) ≡ length (flatten rs) + length r
+pub flatten-snoc : (rs : List (List ℕ)) (r : List ℕ) → length (flatten (rs ++ (r ∷ []))) ≡ length (flatten rs) + length r
 unfolding flatten
 flatten-snoc [] r = simp (append-nil) (omega arith)
 flatten-snoc (s ∷ rs) r = simp (length-append, flatten-snoc rs r) (omega arith)
 
-refused : (m : Module) (t : List ℕ) (room : ℕ) (p : Parsed) → OneOf (1 ∷ 2 ∷ []) (tagOf P.the-type p) → turn reader play m t room p ≡ stopped m (refusalOf p)
+pub refused : (m : Module) (t : List ℕ) (room : ℕ) (p : Parsed) → OneOf (1 ∷ 2 ∷ []) (tagOf P.the-type p) → turn reader play m t room p ≡ stopped m (refusalOf p)
 refused m t room (Record e n) (inl h) = absurd (omega arith)
 refused m t room (Record e n) (inr h) = absurd (omega arith)
 refused m t room Unknown h = refl
@@ -95,7 +95,7 @@ starts t out m =
     }
 
 -- What is lent of the trace from a place on is the rest of it.
-rest : (t : List ℕ) (at : ℕ) → take (length t - at) (drop at t) ≡ drop at t
+pub rest : (t : List ℕ) (at : ℕ) → take (length t - at) (drop at t) ≡ drop at t
 rest t at = take-all (length t - at) (drop at t) (simp length-drop (omega arith))
 
 module _ (t out₀ : List ℕ) (m₀ : Module) (out : List ℕ) (m : Module) (at put : ℕ) (g : Going t out₀ m₀ out m at put) where
