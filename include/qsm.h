@@ -1,6 +1,7 @@
 /*
  * Motorola's queued serial module (QSM), as a struct that a host keeps and changes by six functions; a tool for its logs, qsm_compare; register settings
- * by edition, qsm_editions_add and three more; plans of its queue, qsm_plan; and a module that two drivers share, qsm_drivers_new and eight more.
+ * by edition, qsm_editions_add and three more; plans of its queue, qsm_plan; a judge of other logs, qsm_judge; and a module that
+ * two drivers share, qsm_drivers_new and eight more.
  *
  * For C11 and C++11 on x86-64. The archive is made by `rt staticlib qsm_c`; link target/staticlib/libqsm_c.a.
  *
@@ -477,6 +478,19 @@ struct qsm_found qsm_index_find(const uint8_t *trace, size_t length, const uint6
 uint32_t qsm_taken(const struct qsm *m);
 uint32_t qsm_lost(const struct qsm *m);
 
+/*
+ * Judges a vendor's log of a trace, beside a module after reset: accepted exactly if it is, byte for byte, what qsm_play writes into room
+ * enough. Else the number, from 0, of the first answer that is wrong or missing, and the first field of it that differs; QSM_FIELD_KIND where
+ * it is missing, cut or surplus. The trace is walked to its end or stop either way.
+ */
+struct qsm_judgement {
+    uint64_t number; /* of the first wrong answer; 0 if accepted */
+    uint8_t field;   /* one of enum qsm_field; 0 if accepted */
+    uint8_t stop;    /* QSM_UNKNOWN_KIND, QSM_CUT_RECORD, QSM_CLOCK_LIMIT; QSM_ANSWERED at the end of the trace */
+};
+
+struct qsm_judgement qsm_judge(const uint8_t *trace, size_t trace_length, const uint8_t *log, size_t log_length);
+
 #ifdef __cplusplus
 }
 #endif
@@ -527,6 +541,7 @@ QSM_STRUCT(qsm_played, 8, 200); QSM_AT(qsm_played, state, 0, 176); QSM_AT(qsm_pl
 QSM_AT(qsm_played, written, 184, 8); QSM_AT(qsm_played, stop, 192, 1);
 QSM_STRUCT(qsm_compared, 8, 32); QSM_AT(qsm_compared, count, 0, 8); QSM_AT(qsm_compared, refusal, 8, 1);
 QSM_AT(qsm_compared, second, 9, 1); QSM_AT(qsm_compared, start, 16, 8); QSM_AT(qsm_compared, length, 24, 8);
+QSM_STRUCT(qsm_judgement, 8, 16); QSM_AT(qsm_judgement, number, 0, 8); QSM_AT(qsm_judgement, field, 8, 1); QSM_AT(qsm_judgement, stop, 9, 1);
 QSM_STRUCT(qsm_edition, 2, 10); QSM_AT(qsm_edition, number, 0, 2); QSM_AT(qsm_edition, sccr0, 2, 2); QSM_AT(qsm_edition, sccr1, 4, 2);
 QSM_AT(qsm_edition, spcr0, 6, 2); QSM_AT(qsm_edition, spcr1, 8, 2);
 QSM_STRUCT(qsm_editions_changed, 8, 16); QSM_AT(qsm_editions_changed, used, 0, 8); QSM_AT(qsm_editions_changed, refusal, 8, 1);

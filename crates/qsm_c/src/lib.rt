@@ -16,6 +16,7 @@ ghost use Rattle.qsm_c.specs.Version.{version};
 
 mod account;
 mod index;
+mod judge;
 mod lines;
 mod shared;
 mod until;

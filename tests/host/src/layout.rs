@@ -42,6 +42,7 @@ layout!(Played, 8, 200; state 0, read 176, written 184, stop 192);
 layout!(Compared, 8, 32; count 0, refusal 8, second 9, start 16, length 24);
 layout!(Indexed, 8, 40; marks 0, records 8, place 16, resets 24, stop 32, refusal 33);
 layout!(Found, 8, 32; place 0, resets 8, walked 16, refusal 24);
+layout!(Judgement, 8, 16; number 0, field 8, stop 9);
 layout!(Edition, 2, 10; number 0, sccr0 2, sccr1 4, spcr0 6, spcr1 8);
 layout!(Changed, 8, 16; used 0, refusal 8);
 layout!(Given, 2, 12; edition 0, refusal 10);

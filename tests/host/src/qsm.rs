@@ -170,6 +170,12 @@ c_struct!(Found {
     refusal: u8,
 });
 
+c_struct!(Judgement {
+    number: u64,
+    field: u8,
+    stop: u8,
+});
+
 c_struct!(Edition {
     number: u16,
     sccr0: u16,
@@ -262,6 +268,12 @@ extern "C" {
     fn qsm_taken(m: *const Module) -> u32;
     fn qsm_lost(m: *const Module) -> u32;
     fn qsm_play(m: Module, trace: *const u8, length: usize, log: *mut u8, room: usize) -> Played;
+    fn qsm_judge(
+        trace: *const u8,
+        trace_length: usize,
+        log: *const u8,
+        log_length: usize,
+    ) -> Judgement;
     fn qsm_compare(
         first: *const u8,
         first_length: usize,
@@ -384,6 +396,11 @@ impl Module {
 pub fn version() -> u32 {
     // SAFETY: it takes nothing.
     unsafe { qsm_version() }
+}
+
+pub fn judge(trace: &[u8], log: &[u8]) -> Judgement {
+    // SAFETY: slices are what the header asks for.
+    unsafe { qsm_judge(trace.as_ptr(), trace.len(), log.as_ptr(), log.len()) }
 }
 
 pub fn compare(first: &[u8], second: &[u8], list: &mut [u64]) -> Compared {

@@ -7,6 +7,7 @@ mod drivers;
 mod editions;
 mod figures;
 mod index;
+mod judge;
 mod lines;
 mod plan;
 mod plans;
@@ -39,7 +40,7 @@ pub fn number(word: &str) -> Result<usize, String> {
     word.parse().map_err(|_| format!("no number: {word}"))
 }
 
-const USAGE: &str = "usage: tools play [ROOM] | compare FILE_A FILE_B ROOM | figures | editions \
+const USAGE: &str = "usage: tools play [ROOM] | compare FILE_A FILE_B ROOM | judge TRACE LOG | figures | editions \
     | lines PERIOD ROOM | index MARKS | find TRACE NUMBER | drivers | check | plan | plans REPLAY COUNT SEED";
 
 fn run(words: &[&str]) -> Printed {
@@ -49,6 +50,7 @@ fn run(words: &[&str]) -> Printed {
         ["compare", first, second, room] => {
             compare::compare(&file(first)?, &file(second)?, number(room)?)
         }
+        ["judge", trace, log] => judge::judge(&file(trace)?, &file(log)?),
         ["figures"] => figures::figures(),
         ["editions"] => editions::editions(),
         ["lines", period, room] => {
