@@ -6,12 +6,14 @@ ghost use lib.Dec.{ltb};
 ghost use lib.ListN.{length};
 ghost use Rattle.trace.specs.Trace.{answerLength, answerBytes};
 ghost use Rattle.trace.specs.Play.{refusalOf};
-ghost use Rattle.judging.specs.Verdict.{alike, fieldAt, fieldNumber, verdict, numbered, before};
+ghost use Rattle.judging.specs.Verdict.{alike, verdict, numbered, before};
 ghost use Rattle.judging.specs.Judge.{judged, walked};
 
 mod claims;
+pub mod field;
 pub mod numbers;
 
+use field::field_at;
 use qsm::event::Answer;
 use qsm::state::Module;
 use text::difference::Field;
@@ -84,38 +86,6 @@ fn alike(x: &[u8], y: &[u8]) -> usize
         i += 1;
     }
     i
-}
-
-// Ruled out: a byte of the value taken for the levels; the fields after the vector left out.
-pub fn field_at(i: usize) -> Field
-    ensures { λ r. ⌜ r ≡ fieldAt i ⌝ }
-{
-    match i {
-        0 => Field::Kind,
-        1 => Field::Refusal,
-        2..=5 => Field::Value,
-        6 => Field::Levels,
-        7 => Field::Mask,
-        8 => Field::Level,
-        9 => Field::Vector,
-        _ => Field::Clock,
-    }
-}
-
-// Ruled out: numbers from 0 on; one number for two fields.
-pub fn field_number(f: Field) -> u8
-    ensures { λ r. ⌜ r ≡ fieldNumber f ⌝ }
-{
-    match f {
-        Field::Kind => 1,
-        Field::Refusal => 2,
-        Field::Value => 4,
-        Field::Levels => 8,
-        Field::Mask => 16,
-        Field::Level => 32,
-        Field::Vector => 64,
-        Field::Clock => 128,
-    }
 }
 
 // Answer n, of which the log has the bytes y.

@@ -21,7 +21,8 @@ pub enum Field {
 }
 
 impl Line {
-    fn field_name(self, f: Field) -> Line
+    // Ruled out: the name of another field; one name for two.
+    pub fn field_name(self, f: Field) -> Line
         ensures { λ r. ⌜ r ≡ puts self (fieldName f) ⌝ }
     {
         match f {
