@@ -5,15 +5,8 @@
 #include <stdio.h>
 #include <stdlib.h>
 
+#include "feed.h"
 #include "qsm.h"
-
-enum { CLOCK = 16777216, BAUD = 9600, SCBR = 55 };
-
-static const char program[] = "N10 G00 X0 Y0\n"
-                              "N20 G01 X98.25 F200\n"
-                              "N30 G01 X112.5 Y40\n"
-                              "N40 G00 Z25\n"
-                              "N50 M30\n";
 
 static const char *const causes[] = {"", "framing error", "parity error", "noise", "too long", "overrun"};
 

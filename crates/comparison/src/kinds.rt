@@ -69,6 +69,7 @@ pub fn first_other(kind: u8, log: &[u8]) -> usize
 }
 
 // Whether an answer of a log does not begin with the kind.
+// Ruled out: a cut last answer not looked at; a kind that is neither 10 nor 11 taken for one.
 pub fn mixed(kind: u8, log: &[u8]) -> bool
     ensures { λ r. ⌜ r ≡ mixed kind (now (log .entry)) ⌝ }
 {
