@@ -308,10 +308,10 @@ uint8_t qsm_noise(const struct qsm *m);
 
 /*
  * How long a host can sleep: at these levels of the pins and of RXD, the least number of clocks after which an answer would show other
- * levels, another mask, level or vector than one now; 0 if no hold, however long, would show that. The module is a copy, and stays as it is.
- * A hold of so many clocks is refused QSM_CLOCK_LIMIT like any other.
+ * levels, another mask, level or vector than one now; 0 if they never will, however many holds at these levels follow. The module is a copy,
+ * and stays as it is. The count has room for the clocks told; more than 4,294,967,295 of them take several holds.
  */
-uint32_t qsm_until_change(struct qsm m, uint8_t pins, bool rxd);
+uint64_t qsm_until_change(struct qsm m, uint8_t pins, bool rxd);
 
 /*
  * Plays the records of a trace from the state `m` on and writes their answers, 18 bytes each, to the front of the log. It stops before a

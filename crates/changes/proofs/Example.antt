@@ -1,11 +1,12 @@
 -- The example computes. Assumes nothing.
 use mathlib.Core.Bool.{Bool, true, false}
-use mathlib.Core.Path.{_≡_, refl, _∙_}
-use Prim.Native.Nat.{ℕ, zero, suc, _+_, _<_}
+use mathlib.Core.Path.{_≡_, refl, ap, _∙_}
+use Prim.Native.Nat.{ℕ, zero, suc, _+_, _-_, _<_, _≤_}
 use native.Mathlib.Omega.{arith}
 use Rattle.steps.specs.Iterate.{iterate}
 use Rattle.sci.specs.Serial.{clocked}
 use Rattle.sci.specs.Status.{has}
+use Rattle.sci.specs.Quiet.{quiet, rests}
 use Rattle.qspi.specs.Fields.{bitsOf, preDelay, delayAfter}
 use Rattle.qspi.specs.Entry.{mosiAfter, collectedAfter}
 use Rattle.qspi.specs.Registers.{reset, writeSpcr1}
@@ -19,11 +20,14 @@ use Rattle.qsm.specs.Access.{store, stored}
 use Rattle.qsm.specs.Decision.{admitted, storedBy, decideStored}
 use Rattle.qsm.specs.Pins.{mask, owned, ownLevels, levels}
 use Rattle.qsm.specs.Request.{request}
-use Rattle.qsm.specs.Event.{answerOf, clockModule, clocks, refused, writes, does}
-use Rattle.changes.specs.Change.{differs, untilChange}
+use Rattle.qsm.specs.Event.{answerOf, clockLimit, clockModule, clocks, held, refused, writes, does}
+use Rattle.changes.specs.Change.{look, differs, firstOf, untilChange}
+use Rattle.changes.specs.Steady.{ahead, serialStill}
 use Rattle.changes.specs.Laws.{started}
-use Rattle.changes.specs.declared.Change.the-variants.{After}
-use Rattle.changes.proofs.First.{found, passes}
+use Rattle.changes.specs.declared.Change.the-variants.{After, Nothing}
+use Rattle.changes.proofs.First.{found, passes, nothing}
+use Rattle.changes.proofs.Turns.{changed}
+use Rattle.changes.proofs.Returning.{for-ever}
 
 abbrev shows : ℕ → Bool
 shows n = differs started 0xFF true n
@@ -50,6 +54,31 @@ before (suc zero) less = second
 before (suc (suc zero)) less = third
 before (suc (suc (suc j))) less = absurd (omega arith)
 
+begins : started .clock ≡ 0
+unfolding does writes refused answerOf request mask owned ownLevels levels clocks clockModule iterate store stored storedBy decideStored admitted inMap isRestricted decode peek put unmodelled guarded peekQueue putQueue queueUnmodelled queueGuarded resetModule reset writeSpcr1 clocked has clock queueClock startClock playClock edge bitsOf preDelay delayAfter mosiAfter collectedAfter
+begins = refl
+
 pub met : untilChange started 0xFF true ≡ After 4
 unfolding untilChange
-met = passes shows 3 4294967292 1 before ∙ found shows 4294967291 4 fourth
+met = ap (λ (n : ℕ). firstOf shows (clockLimit - n) 1) begins ∙ passes shows 3 (clockLimit - 3) 1 before ∙ found shows (clockLimit - 4) 4 fourth
+
+-- After a reset nothing runs.
+idle : (i : ℕ) → 1 ≤ i → i ≤ 1 → changed (look resetModule) (held resetModule 0xFF) true i ≡ false
+unfolding resetModule reset clocks clockModule iterate clocked clock queueClock answerOf request mask owned ownLevels levels has
+idle zero low high = absurd (omega arith)
+idle (suc zero) low high = refl
+idle (suc (suc i)) low high = absurd (omega arith)
+
+still : serialStill (ahead 0 true (held resetModule 0xFF) .sci) true ≡ true
+unfolding resetModule iterate rests quiet has
+still = refl
+
+back : ahead 0 true (held resetModule 0xFF) .qspi ≡ ahead 1 true (held resetModule 0xFF) .qspi
+unfolding resetModule reset iterate clock queueClock
+back = refl
+
+pub none-met : untilChange resetModule 0xFF true ≡ Nothing
+unfolding untilChange
+none-met =
+    nothing (differs resetModule 0xFF true) (clockLimit - resetModule .clock) 1
+    (λ j less. for-ever (look resetModule) (held resetModule 0xFF) true 0 1 still back (omega arith) idle (1 + j) (omega arith))

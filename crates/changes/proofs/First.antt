@@ -5,7 +5,7 @@ use Prim.Native.Nat.{ℕ, zero, suc, _+_, _<_}
 use native.Mathlib.Omega.{arith}
 use Rattle.changes.specs.Change.{firstOf}
 use Rattle.changes.specs.declared.Change.{Change}
-use Rattle.changes.specs.declared.Change.the-variants.{After}
+use Rattle.changes.specs.declared.Change.the-variants.{After, Nothing}
 
 pub found : (p : ℕ → Bool) (r n : ℕ) → p n ≡ true → firstOf p (suc r) n ≡ After n
 unfolding firstOf
@@ -29,3 +29,9 @@ passes p (suc k) r n h =
   where
     moved : (j : ℕ) → n + 1 + j ≡ n + suc j
     moved j = omega arith
+
+pub nothing : (p : ℕ → Bool) (k n : ℕ) → ((j : ℕ) → j < k → p (n + j) ≡ false) → firstOf p k n ≡ Nothing
+unfolding firstOf
+nothing p k n h =
+    let whole : k ≡ k + zero = omega arith in
+    ap (λ (i : ℕ). firstOf p i n) whole ∙ passes p k zero n h

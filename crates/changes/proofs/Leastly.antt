@@ -3,12 +3,12 @@ use mathlib.Core.Bool.{Bool, true, false, cond, false≢true}
 use mathlib.Core.Path.{_≡_, refl, sym, ap, _∙_}
 use Prim.Native.Nat.{ℕ, zero, suc, _+_, _-_, _<_, _≤_}
 use native.Mathlib.Omega.{arith}
-use Rattle.qsm.specs.Event.{holds, does, step, passes, clocks, answerOf}
-use Rattle.changes.specs.Change.{number, firstOf, longest, untilChange, differs}
-use Rattle.changes.specs.Laws.{OfAHold, Least, NoneInAHold, Shown}
+use Rattle.qsm.specs.Event.{holds, does, step, passes, clockLimit, clocks, answerOf}
+use Rattle.qsm.proofs.Limit.{is-room}
+use Rattle.changes.specs.Change.{number, firstOf, untilChange, differs}
+use Rattle.changes.specs.Laws.{OfAHold, Least}
 use Rattle.changes.specs.declared.Change.{Change}
 use Rattle.changes.specs.declared.Change.the-variants.{After, Nothing}
-use Rattle.changes.proofs.Example.{met}
 
 -- No number of none.
 abbrev some : Change → Bool
@@ -54,7 +54,7 @@ module _ (p : ℕ → Bool) where
             first = λ i low high. at-or-after n i low e (λ past. later .first i past high);
           }
 
-  none-found : (k n : ℕ) → firstOf p k n ≡ Nothing → (i : ℕ) → n ≤ i → i < n + k → p i ≡ false
+  pub none-found : (k n : ℕ) → firstOf p k n ≡ Nothing → (i : ℕ) → n ≤ i → i < n + k → p i ≡ false
   unfolding firstOf
   none-found zero n h i low high = absurd (omega arith)
   none-found (suc k) n h i low high = go (p n) refl h (λ rest past. none-found k (n + 1) rest i past (omega arith))
@@ -64,19 +64,12 @@ module _ (p : ℕ → Bool) where
       go true e h on = absurd (false≢true (sym (ap some h)))
       go false e h on = at-or-after n i low e (on h)
 
-least : Least
+pub least : Least
 unfolding untilChange
 least m pins rxd n h =
-    let f : Found (differs m pins rxd) longest 1 n = found-least (differs m pins rxd) longest 1 n h in
-    (f .is, f .from, omega (arith, f .within), f .first)
+    let f : Found (differs m pins rxd) (clockLimit - m .clock) 1 n = found-least (differs m pins rxd) (clockLimit - m .clock) 1 n h in
+    (f .is, f .from, is-room m n (omega (arith, f .within, f .from)), f .first)
 
-none-in-a-hold : NoneInAHold
-unfolding untilChange
-none-in-a-hold m pins rxd h k low high = none-found (differs m pins rxd) longest 1 h k low (omega arith)
-
-of-a-hold : OfAHold
+pub of-a-hold : OfAHold
 unfolding step does holds answerOf
 of-a-hold m pins rxd n lets = rw lets
-
-pub shown-laws : Shown
-shown-laws = record { of-a-hold = of-a-hold; least = least; none-in-a-hold = none-in-a-hold; met = met }

@@ -1,12 +1,13 @@
 -- After the first of its steady clocks a module shows the same after each. Assumes nothing.
-use mathlib.Core.Bool.{Bool, true, false, cond, _&&_, _||_}
+use mathlib.Core.Bool.{Bool, true, false, cond, not, _&&_, _||_}
 use mathlib.Core.Path.{_≡_, refl, sym, ap, _∙_}
-use Prim.Native.Nat.{ℕ, zero, suc, _+_, _≤_, max, min}
+use Prim.Native.Nat.{ℕ, zero, suc, _+_, _-_, _*_, _≤_, max, min}
 use native.Mathlib.Omega.{arith}
-use lib.Dec.{ltb}
-use borrow.Author.Tests.{lt-ltb}
+use lib.Dec.{eqb, leb, ltb}
+use borrow.Author.Tests.{eqb-true, lt-ltb}
 use Rattle.steps.specs.Iterate.{iterate}
 use Rattle.steps.proofs.Iterate.{iterate-add, iterate-fixed}
+use Rattle.sci.specs.Control.{SCBR}
 use Rattle.sci.specs.Serial.{active, due, prescaled, clocked}
 use Rattle.sci.specs.Quiet.{quiet, withCount, skipped, rests}
 use Rattle.sci.specs.declared.serial.Sci.{Sci}
@@ -22,11 +23,11 @@ use Rattle.qsm.specs.Event.{answerOf, clocks, pinsOf}
 use Rattle.qsm.specs.declared.state.Module.{Module}
 use Rattle.qsm.proofs.Clocks.{apart}
 use Rattle.changes.specs.Change.{look}
-use Rattle.changes.specs.Steady.{ahead, serialSteady, steady}
+use Rattle.changes.specs.Steady.{ahead, serialSteady, serialStill, steady}
 use Rattle.changes.specs.declared.Look.{Look}
 
 -- What m shows with other halves.
-abbrev shows : Module → Sci → Qspi → Look
+abbrev pub shows : Module → Sci → Qspi → Look
 shows m s q = look (withSci (withQspi m q) s)
 
 -- The same half, but for the prescaler's count.
@@ -52,12 +53,30 @@ rest-clock s x n h = go (active (withCount s n)) (due (withCount s n))
     go true false = record { count = min 65535 (n + 1); is = refl }
     go true true = record { count = 0; is = rest-sampled (withCount s n) x (rest-stays s x n h) }
 
-rest-clocks : (j : ℕ) (s : Sci) (x : Bool) → rests s x ≡ true → Counted s (iterate j (λ s. clocked s x) s)
+-- With no sample to come, the count alone changes, if anything.
+no-sample : (s : Sci) (x : Bool) (n : ℕ) → eqb (quiet s) 4294967295 ≡ true → Counted s (clocked (withCount s n) x)
+unfolding quiet clocked
+no-sample s x n h = go (active s) (eqb (2 * SCBR (s .sccr0)) 0) h
+  where
+    go : (a z : Bool) → eqb (cond a (cond z 4294967295 (2 * SCBR (s .sccr0) - 1 - s .prescaler)) 4294967295) 4294967295 ≡ true →
+        Counted s (cond a (prescaled (not z && leb (2 * SCBR (s .sccr0)) (n + 1)) (withCount s n) x) (withCount s n))
+    go false z h = record { count = n; is = refl }
+    go true true h = record { count = min 65535 (n + 1); is = refl }
+    go true false h = absurd (omega (arith, eqb-true (2 * SCBR (s .sccr0) - 1 - s .prescaler) 4294967295 h))
+
+still-clock : (s : Sci) (x : Bool) (n : ℕ) → serialStill s x ≡ true → Counted s (clocked (withCount s n) x)
+still-clock s x n h = go (rests s x) refl h
+  where
+    go : (b : Bool) → rests s x ≡ b → b || eqb (quiet s) 4294967295 ≡ true → Counted s (clocked (withCount s n) x)
+    go true e h = rest-clock s x n e
+    go false e h = no-sample s x n h
+
+still-clocks : (j : ℕ) (s : Sci) (x : Bool) → serialStill s x ≡ true → Counted s (iterate j (λ s. clocked s x) s)
 unfolding iterate
-rest-clocks zero s x h = record { count = s .prescaler; is = refl }
-rest-clocks (suc j) s x h =
-    let before : Counted s (iterate j (λ s. clocked s x) s) = rest-clocks j s x h in
-    let last : Counted s (clocked (withCount s (before .count)) x) = rest-clock s x (before .count) h in
+still-clocks zero s x h = record { count = s .prescaler; is = refl }
+still-clocks (suc j) s x h =
+    let before : Counted s (iterate j (λ s. clocked s x) s) = still-clocks j s x h in
+    let last : Counted s (clocked (withCount s (before .count)) x) = still-clock s x (before .count) h in
     record { count = last .count; is = ap (λ (t : Sci). clocked t x) (before .is) ∙ last .is }
 
 quiet-clocks-count : (j : ℕ) (s : Sci) (x : Bool) → s .prescaler ≤ 65535 → j ≤ quiet s → Counted s (iterate j (λ s. clocked s x) s)
@@ -74,8 +93,16 @@ serial-counts : (s : Sci) (x : Bool) (j : ℕ) → s .prescaler ≤ 65535 → j 
 serial-counts s x j f h = go (rests s x) refl h
   where
     go : (b : Bool) → rests s x ≡ b → j ≤ cond b 4294967295 (quiet s) → Counted s (iterate j (λ s. clocked s x) s)
-    go true e l = rest-clocks j s x e
+    go true e l = still-clocks j s x (rw e)
     go false e l = quiet-clocks-count j s x f l
+
+-- Of a still serial half only the queue shows something new.
+pub still-look : (j : ℕ) (rxd : Bool) (m : Module) → serialStill (m .sci) rxd ≡ true →
+    look (ahead j rxd m) ≡ shows m (m .sci) (iterate j (λ q. clock q (pinsOf m)) (m .qspi))
+still-look j rxd m h =
+    let t : Counted (m .sci) (iterate j (λ s. clocked s rxd) (m .sci)) = still-clocks j (m .sci) rxd h in
+    let q : Qspi = iterate j (λ q. clock q (pinsOf m)) (m .qspi) in
+    ap (λ (u : Sci). shows m u q) (t .is) ∙ unseen m (m .sci) q (t .count)
 
 -- The queue: the count is not shown, and PCS change at the first clock if at all.
 queue-shows : (m : Module) (s : Sci) (q : Qspi) (j : ℕ) → shows m s (queue.skipped (suc j) q) ≡ shows m s (queue.skipped 1 q)

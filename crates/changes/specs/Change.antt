@@ -1,9 +1,9 @@
 -- For a host that sleeps: at given pins and RXD, the least number of clocks after which levels, mask, level or vector of an answer differ
--- from those of an answer now, or none.
+-- from those of an answer now, or none if they never will.
 use mathlib.Core.Bool.{Bool, cond, not, _&&_}
-use Prim.Native.Nat.{ℕ, zero, suc, _+_}
+use Prim.Native.Nat.{ℕ, zero, suc, _+_, _-_}
 use lib.Dec.{eqb}
-use Rattle.qsm.specs.Event.{answerOf, clocks, held}
+use Rattle.qsm.specs.Event.{answerOf, clockLimit, clocks, held}
 use Rattle.qsm.specs.declared.state.Module.{Module}
 use Rattle.qsm.specs.declared.event.Answer.{Answer}
 use Rattle.changes.specs.declared.Look.{Look}
@@ -30,12 +30,9 @@ unfoldable pub firstOf : (ℕ → Bool) → ℕ → ℕ → Change
 firstOf p zero n = Nothing
 firstOf p (suc k) n = cond (p n) (After n) (firstOf p k (n + 1))
 
--- No hold has more than 4,294,967,295 clocks.
-abbrev pub longest : ℕ
-longest = 4294967295
-
+-- No clock comes after 2^64 - 1 since reset: every hold is refused then.
 unfoldable pub untilChange : Module → ℕ → Bool → Change
-untilChange m pins rxd = firstOf (differs m pins rxd) longest 1
+untilChange m pins rxd = firstOf (differs m pins rxd) (clockLimit - m .clock) 1
 
 -- As a number, 0 for none.
 abbrev pub number : Change → ℕ

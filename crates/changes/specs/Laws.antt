@@ -1,5 +1,6 @@
--- What the number says: nothing else is shown before it, something else is shown at it; and none means that no hold would show it.
+-- What the number says: nothing else is shown before it, something else is shown at it; and none means that it never will be.
 use mathlib.Core.Bool.{Bool, true, false, not}
+use mathlib.Core.List.{List, [], _∷_}
 use mathlib.Core.Path.{_≡_}
 use Prim.Native.Nat.{ℕ, _<_, _≤_}
 use Rattle.qsm.specs.Event.{does, step, passes}
@@ -9,7 +10,7 @@ use Rattle.qsm.specs.declared.event.Access.the-variants.{Write}
 use Rattle.qsm.specs.declared.event.Event.{Event}
 use Rattle.qsm.specs.declared.event.Event.the-variants.{Hold}
 use Rattle.qsm.specs.declared.event.Event.the-variants as event
-use Rattle.changes.specs.Change.{lookOf, look, sameLook, differs, longest, untilChange}
+use Rattle.changes.specs.Change.{lookOf, look, sameLook, differs, untilChange}
 use Rattle.changes.specs.declared.Change.the-variants.{After, Nothing}
 
 -- The answer to a hold that is not refused shows what is compared.
@@ -21,12 +22,18 @@ OfAHold =
 abbrev pub Least : Type 0
 Least =
     (m : Module) (pins : ℕ) (rxd : Bool) (n : ℕ) → untilChange m pins rxd ≡ After n →
-    (differs m pins rxd n ≡ true) × (1 ≤ n) × (n ≤ longest) × ((k : ℕ) → 1 ≤ k → k < n → differs m pins rxd k ≡ false)
+    (differs m pins rxd n ≡ true) × (1 ≤ n) × (passes m n ≡ false) × ((k : ℕ) → 1 ≤ k → k < n → differs m pins rxd k ≡ false)
 
-abbrev pub NoneInAHold : Type 0
-NoneInAHold =
+-- What holds at these levels leave, one after another, refused ones among them.
+unfoldable pub after : Module → ℕ → Bool → List ℕ → Module
+after m pins rxd [] = m
+after m pins rxd (n ∷ ns) = after (step m (Hold pins rxd n) .state) pins rxd ns
+
+-- None: no hold at these levels, after any such holds, gets an answer that shows something else.
+abbrev pub Never : Type 0
+Never =
     (m : Module) (pins : ℕ) (rxd : Bool) → untilChange m pins rxd ≡ Nothing →
-    (k : ℕ) → 1 ≤ k → k ≤ longest → differs m pins rxd k ≡ false
+    (ns : List ℕ) (n : ℕ) → sameLook (look m) (lookOf (step (after m pins rxd ns) (Hold pins rxd n) .answer)) ≡ true
 
 -- A queue that starts with SPBR 4: MSTR, then SPE. SCK turns with edge 1, at clock 4.
 abbrev pub started : Module
@@ -35,5 +42,6 @@ started = does (does resetModule (event.Access (Write true 2 0x18 0x8104)) .stat
 pub record Shown : Type 0 where
   pub of-a-hold : OfAHold
   pub least : Least
-  pub none-in-a-hold : NoneInAHold
+  pub never : Never
   pub met : untilChange started 0xFF true ≡ After 4
+  pub none-met : untilChange resetModule 0xFF true ≡ Nothing

@@ -1,6 +1,8 @@
 -- Clocks after which an answer shows what it shows after the first of them. (proofs/Steady shows it of the module.)
-use mathlib.Core.Bool.{Bool, cond}
+use mathlib.Core.Bool.{Bool, true, cond, _||_}
+use mathlib.Core.Path.{_≡_}
 use Prim.Native.Nat.{ℕ, max, min}
+use lib.Dec.{eqb}
 use Rattle.steps.specs.Iterate.{iterate}
 use Rattle.sci.specs.Serial.{clocked}
 use Rattle.sci.specs.Quiet.{quiet, rests}
@@ -22,3 +24,11 @@ serialSteady s rxd = cond (rests s rxd) 4294967295 (quiet s)
 
 abbrev pub steady : Module → Bool → ℕ
 steady m rxd = max 1 (min (queue.quiet (m .qspi) (pinsOf m)) (serialSteady (m .sci) rxd))
+
+-- At rest, or with no sample to come in any hold.
+abbrev pub serialStill : Sci → Bool → Bool
+serialStill s rxd = rests s rxd || eqb (quiet s) 4294967295
+
+-- What follows b is known from what followed a.
+abbrev pub Returned : Module → Module → Bool → Type 0
+Returned a b rxd = (serialStill (a .sci) rxd ≡ true) × (a .qspi ≡ b .qspi)

@@ -1,11 +1,11 @@
 // How long an answer stays as it is: the clocks until the pins or the request show something else, while pins and RXD keep their levels.
 ghost use mathlib.Core.Path.{_≡_};
 ghost use mathlib.Core.Bool.{true};
-ghost use Prim.Native.Nat.{_+_, _≤_, max, min};
-ghost use Rattle.qsm.specs.Event.{held, pinsOf};
+ghost use Prim.Native.Nat.{_+_, _-_, _≤_, max, min};
+ghost use Rattle.qsm.specs.Event.{clockLimit, held, pinsOf};
 ghost use Rattle.changes.specs.Change.{look, sameLook, number, untilChange};
 ghost use Rattle.changes.specs.Laws.{Shown};
-ghost use Rattle.changes.specs.Steady.{serialSteady, steady, ahead};
+ghost use Rattle.changes.specs.Steady.{serialSteady, serialStill, steady, ahead, Returned};
 use qsm::pins::outputs_of;
 use qsm::request::request_of;
 use qsm::state::Module;
@@ -23,9 +23,9 @@ pub struct Look {
     pub vector: u8,
 }
 
-// The clocks after which an answer shows something else, or none in which it would.
+// The clocks after which an answer shows something else, or none: it never will.
 pub enum Change {
-    After(u32),
+    After(u64),
     Nothing,
 }
 
@@ -61,6 +61,12 @@ fn least(a: u32, b: u32) -> u32
     ensures { λ r. ⌜ r ≡ min a b ⌝ }
 {
     if a < b { a } else { b }
+}
+
+fn within(left: u64, k: u32) -> u32
+    ensures { λ r. ⌜ r ≡ min left k ⌝ }
+{
+    if left < k as u64 { left as u32 } else { k }
 }
 
 fn larger(a: u32, b: u32) -> u32
@@ -119,30 +125,73 @@ fn ahead(mut m: Module, n: u32, rxd: bool) -> Module
     m
 }
 
+// Whether the serial half shows the same after every clock to come: it rests, or no sample comes in any hold.
+fn serial_still(s: Sci, rxd: bool) -> bool
+    ensures { λ r. ⌜ r ≡ serialStill s rxd ⌝ }
+{
+    if s.rests(rxd) {
+        true
+    } else {
+        s.quiet() == LONGEST
+    }
+}
+
+// Whether what follows b is known from what followed a: the serial half shows nothing new, and the queue is as it was.
+fn returned(a: Module, b: Module, rxd: bool) -> bool
+    ensures { λ r. ⌜ (r ≡ true → Returned a b rxd) ⌝ }
+{
+    let before = a.qspi;
+    let after = b.qspi;
+    let serial = a.sci;
+    if serial_still(serial, rxd) {
+        before.same(after)
+    } else {
+        false
+    }
+}
+
+// Clocks that a count has room for.
+fn room(clock: u64) -> u64
+    ensures { λ r. ⌜ r ≡ clockLimit - clock ⌝ }
+{
+    0xFFFFFFFFFFFFFFFF - clock
+}
+
 // The least number of clocks, at these levels of the pins and of RXD, after which an answer shows other pins or another request than one
-// now; nothing where no hold, however long, would show it. The module is not changed.
-// Ruled out: a clock later than the change; the change of a later hold; 1 for want of a better answer.
+// now; nothing where no clock that the module can count would show it. The module is not changed. A state is kept and looked for again, and
+// another one is kept when twice its clocks are gone: so a search that finds nothing ends soon after the halves have come to rest or gone round.
+// Ruled out: a clock later than the change; the change of a later hold; 1 for want of a better answer; nothing for a change that is far.
 pub fn until_change(m: Module, pins: u8, rxd: bool) -> Change
     ensures { λ r. ⌜ r ≡ untilChange m pins rxd ⌝ }
 {
     let now = shown(m);
+    let all = room(m.clock);
     let mut s = held(m, pins);
-    let mut left: u32 = LONGEST;
+    let mut left = all;
+    let mut kept = s;
+    let mut kept_left = all;
     while 0 < left {
-        let k = least(left, steady(s, rxd));
+        let k = within(left, steady(s, rxd));
         s = ahead(s, k, rxd);
         let then = shown(s);
         if !now.same(then) {
-            return Change::After(LONGEST - left + 1);
+            return Change::After(all - left + 1);
         }
-        left -= k;
+        left -= k as u64;
+        if returned(kept, s, rxd) {
+            return Change::Nothing;
+        }
+        if all - kept_left <= (all - left) / 2 {
+            kept = s;
+            kept_left = left;
+        }
     }
     Change::Nothing
 }
 
 // The clocks of a change, 0 for none.
 // Ruled out: one less; a number for none.
-pub fn number(c: Change) -> u32
+pub fn number(c: Change) -> u64
     ensures { λ r. ⌜ r ≡ number c ⌝ }
 {
     match c {

@@ -3,11 +3,11 @@ ghost use mathlib.Core.Path.{_≡_};
 ghost use Rattle.changes.specs.Change.{number, untilChange};
 use qsm::state::Module;
 
-// The least number of clocks at these levels after which an answer would show other pins or another request than one now; 0 where no hold,
-// however long, would.
+// The least number of clocks at these levels after which an answer would show other pins or another request than one now; 0 where it never
+// will.
 // Ruled out: a clock late; 0 for a change that comes with the first clock.
 #[no_mangle]
-pub extern "C" fn qsm_until_change(m: Module, pins: u8, rxd: bool) -> u32
+pub extern "C" fn qsm_until_change(m: Module, pins: u8, rxd: bool) -> u64
     ensures { λ r. ⌜ r ≡ number (untilChange m pins rxd) ⌝ }
 {
     changes::number(changes::until_change(m, pins, rxd))

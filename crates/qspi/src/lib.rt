@@ -9,7 +9,7 @@ pub mod queue;
 pub mod ram;
 pub mod registers;
 mod rounds;
-mod same;
+pub mod same;
 pub mod spsr;
 
 use crate::entry::Entry;

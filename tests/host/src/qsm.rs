@@ -264,7 +264,7 @@ extern "C" {
     fn qsm_read(m: *mut Module, supervisor: bool, width: u8, offset: u16) -> Answer;
     fn qsm_write(m: *mut Module, supervisor: bool, width: u8, offset: u16, value: u32) -> Answer;
     fn qsm_noise(m: *const Module) -> u8;
-    fn qsm_until_change(m: Module, pins: u8, rxd: bool) -> u32;
+    fn qsm_until_change(m: Module, pins: u8, rxd: bool) -> u64;
     fn qsm_taken(m: *const Module) -> u32;
     fn qsm_lost(m: *const Module) -> u32;
     fn qsm_play(m: Module, trace: *const u8, length: usize, log: *mut u8, room: usize) -> Played;
@@ -357,8 +357,8 @@ impl Module {
         unsafe { qsm_noise(self) }
     }
 
-    /// The clocks until an answer shows other pins or another request, or none within the longest hold.
-    pub fn until_change(&self, pins: u8, rxd: bool) -> Option<u32> {
+    /// The clocks until an answer shows other pins or another request, or none if it never will.
+    pub fn until_change(&self, pins: u8, rxd: bool) -> Option<u64> {
         // SAFETY: as said above.
         match unsafe { qsm_until_change(self.clone(), pins, rxd) } {
             0 => None,
