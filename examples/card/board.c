@@ -6,12 +6,12 @@
 static void next_bit(struct board *b)
 {
     uint64_t bit = ++b->sent;
-    const char *p = bit < 10 ? "\xFF" : program + bit / 10 - 1;
-    b->rxd = !*p || bit < 10 || (0x200 | (unsigned)*p << 1) >> bit % 10 & 1;
+    const char *p = bit < 10 ? "\xFF" : b->text + bit / 10 - 1;
+    b->rxd = !*p || bit < 10 || (0x200 | (uint8_t)*p << 1) >> bit % 10 & 1;
     b->edge = *p ? (bit + 1) * CLOCK / BAUD : NEVER;
     if (*p == '\n' && bit % 10 == 9) {
         const char *start = p;
-        while (start > program && start[-1] != '\n')
+        while (start > b->text && start[-1] != '\n')
             start--;
         printf("  RXD %.*s\n", (int)(p - start), start);
     }
@@ -67,8 +67,8 @@ void board_keep(struct board *b, uint64_t clock)
     }
 }
 
-void board_start(struct board *b)
+void board_start(struct board *b, const char *text)
 {
-    *b = (struct board){.qsm = qsm_new(), .rxd = true, .edge = CLOCK / BAUD};
+    *b = (struct board){.qsm = qsm_new(), .text = text, .rxd = true, .edge = CLOCK / BAUD};
     board_see(b, qsm_reset(&b->qsm));
 }

@@ -13,7 +13,8 @@ struct board {
     struct qsm_answer seen; /* the last: pins, request, clock */
     uint64_t due;           /* when they or RXD change next */
 
-    /* The sender at RXD: its level, bits sent, the end of this one. */
+    /* The sender at RXD: its text and level, bits sent, the end of this one. */
+    const char *text;
     bool rxd;
     uint64_t sent, edge;
 
@@ -27,8 +28,8 @@ struct board {
     unsigned word;
 };
 
-/* After a reset. */
-void board_start(struct board *b);
+/* After a reset, with a text that is going to be sent. */
+void board_start(struct board *b, const char *text);
 
 /* Time passes up to a clock. The module is called where pins, request or RXD change, and at the end. */
 void board_keep(struct board *b, uint64_t clock);

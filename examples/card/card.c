@@ -35,6 +35,7 @@ struct card {
     uint32_t pc;                                  /* where it goes on */
     enum { STOPPED, INTERRUPTED, RETURNING } why; /* why it came to a stop */
     uint64_t now, awake;                          /* its clocks, and those not in STOP; the board may be behind */
+    uint64_t rested;                              /* when it was last in STOP */
     uint64_t since[8], longest;                   /* when the handler of a level was entered; the clocks of the longest */
     unsigned taken[256];                          /* interrupts by vector */
 };
@@ -92,7 +93,6 @@ static uint32_t bus(struct card *c, const char *what, unsigned width, uint64_t p
 static uint64_t on_read(uc_engine *cpu, uint64_t place, unsigned width, void *card)
 {
     struct card *c = card;
-    (void)cpu;
     board_keep(&c->board, c->now);
     bool supervisor = reg(c, UC_M68K_REG_SR) & SUPERVISOR;
     return bus(c, "read", width, place, qsm_read(&c->board.qsm, supervisor, (uint8_t)width, (uint16_t)(place - QSM)));
@@ -101,7 +101,6 @@ static uint64_t on_read(uc_engine *cpu, uint64_t place, unsigned width, void *ca
 static void on_write(uc_engine *cpu, uint64_t place, unsigned width, uint64_t value, void *card)
 {
     struct card *c = card;
-    (void)cpu;
     board_keep(&c->board, c->now);
     bool supervisor = reg(c, UC_M68K_REG_SR) & SUPERVISOR;
     bus(c, "write", width, place, qsm_write(&c->board.qsm, supervisor, (uint8_t)width, (uint16_t)(place - QSM), (uint32_t)value));
@@ -111,11 +110,10 @@ static void on_write(uc_engine *cpu, uint64_t place, unsigned width, uint64_t va
 static void on_block(uc_engine *cpu, uint64_t address, uint32_t size, void *card)
 {
     struct card *c = card;
-    (void)size;
     if (address >= EXCEPTIONS)
         return;
-    if (c->now > CLOCK)
-        fail(c, "it doesn't come to rest within a second");
+    if (c->now - c->rested > CLOCK)
+        fail(c, "no STOP within a second");
     if (c->now >= c->board.due)
         board_keep(&c->board, c->now);
     if (c->board.seen.level > mask(c)) {
@@ -134,7 +132,6 @@ static void spend(struct card *c, unsigned clocks)
 static void on_instruction(uc_engine *cpu, uint64_t address, uint32_t size, void *card)
 {
     struct card *c = card;
-    (void)cpu, (void)size;
     if (address < EXCEPTIONS && c->why == STOPPED)
         spend(c, INSTRUCTION);
 }
@@ -180,6 +177,7 @@ static bool awoken(struct card *c)
         c->now = c->board.due;
         board_keep(&c->board, c->now);
     }
+    c->rested = c->now;
     return c->board.seen.level > mask(c);
 }
 
@@ -200,12 +198,12 @@ static void run(struct card *c)
     board_keep(&c->board, c->now);
 }
 
-/* The firmware's image in ROM, and the CPU as a reset leaves it. */
-static void start(struct card *c, FILE *image)
+/* The firmware's image in ROM, and CPU and board as a reset leaves them. */
+static void start(struct card *c, FILE *image, const char *text)
 {
     static uint8_t rom[SIZE];
     uc_hook block, instruction, exception;
-    board_start(&c->board);
+    board_start(&c->board, text);
     check(c, uc_open(UC_ARCH_M68K, UC_MODE_BIG_ENDIAN, &c->cpu));
     check(c, uc_ctl_set_cpu_model(c->cpu, UC_CPU_M68K_M68020)); /* there is no CPU32, which does less */
     check(c, uc_mem_map(c->cpu, ROM, SIZE, UC_PROT_READ | UC_PROT_EXEC));
@@ -225,14 +223,16 @@ static void start(struct card *c, FILE *image)
 
 int main(int count, char **words)
 {
-    FILE *image = count == 2 ? fopen(words[1], "rb") : NULL;
-    if (!image) {
-        fprintf(stderr, "usage: card IMAGE\n");
+    static struct card c;
+    static char text[65536];
+    FILE *image = count > 1 ? fopen(words[1], "rb") : NULL, *file = count > 2 ? fopen(words[2], "rb") : NULL;
+    if (file)
+        text[fread(text, 1, sizeof text - 1, file)] = '\0';
+    if (!image || (count > 2 && (!file || fgetc(file) != EOF))) {
+        fprintf(stderr, "usage: card IMAGE [PROGRAM]; a program has at most %zu bytes\n", sizeof text - 1);
         return EXIT_FAILURE;
     }
-    static struct card c;
-    start(&c, image);
-    fclose(image);
+    start(&c, image, file ? text : program);
     run(&c);
     unsigned times = (unsigned)(c.longest / CHARACTER);
     printf("  %u characters came, %u lost; ", qsm_taken(&c.board.qsm), qsm_lost(&c.board.qsm));

@@ -37,7 +37,7 @@ enum { SERIAL_LEVEL = 4, QUEUE_LEVEL = 5, VECTOR = 0x40 }; /* the queue's vector
 enum { SCBR = 55, SPBR = 8 };                              /* of 16.78 MHz: 9,533 baud, and a shift clock of 1 MHz */
 enum { NUMBER = 0x8000, MOST = 32767 };                    /* beside the flags in `damage`: an axis has none, or one above 327.67 */
 
-/* Characters to send: the echo, which keeps step with the input, and reports. */
+/* Characters to send: echo and reports. */
 static char ring[256];
 static uint8_t head, tail;
 
@@ -94,11 +94,12 @@ static uint16_t set_point(int32_t hundredths)
 
 static void end_word(void)
 {
-    if (letter >= 'X' && letter <= 'Z') {
-        points[letter - 'X'] = set_point(negative ? -number : number);
-        asked |= 1 << (letter - 'X');
-        if (number < 0 || number > MOST)
-            damage |= NUMBER;
+    unsigned axis = letter - 'X';
+    if (axis < 3 && (number < 0 || number > MOST))
+        damage |= NUMBER;
+    else if (axis < 3) {
+        points[axis] = set_point(negative ? -number : number);
+        asked |= 1 << axis;
     }
     letter = 0;
 }
@@ -136,7 +137,8 @@ static void end_line(void)
 
 static void take(char character)
 {
-    put(character);
+    if ((uint8_t)(head - tail) < 192) /* the echo gives way to reports */
+        put(character);
     if (character >= 'A' && character <= 'Z') {
         end_word(); /* in G01X112.5Y40 too */
         letter = character;
