@@ -6,7 +6,7 @@ use Prim.Native.Nat.{ℕ, _+_, _≤_}
 use lib.Dec.{eqb, ltb}
 use lib.ListN.{length, getD, drop}
 use Rattle.files.specs.declared.words.Word.{Word}
-use Rattle.files.specs.declared.words.Word.the-variants.{Help, Known, Unknown, Plain}
+use Rattle.files.specs.declared.words.Word.the-variants.{Help, Version, First, Second, Unknown, Plain}
 
 -- Two words have the same bytes.
 unfoldable pub same : List ℕ → List ℕ → Bool
@@ -19,12 +19,16 @@ same (a ∷ s) (b ∷ t) = eqb a b && same s t
 unfoldable pub isOption : List ℕ → Bool
 isOption word = cond (ltb (length word) 2) false (eqb (getD word 0 0) 45)
 
--- What a word is, by whether it is an option, the one that asks for help, and the one that the program knows.
-abbrev pub kind : Bool → Bool → Bool → Word
-kind false help known = Plain
-kind true true known = Help
-kind true false true = Known
-kind true false false = Unknown
+-- What a word is: the first of these that it is the same as; an option that is none of them is not known.
+abbrev pub kind : List ℕ → List ℕ → List ℕ → List ℕ → List ℕ → Word
+kind word help version first second =
+    cond
+    (isOption word)
+    (cond
+    (same word help)
+    Help
+    (cond (same word version) Version (cond (same word first) First (cond (same word second) Second Unknown))))
+    Plain
 
 -- A program goes on only with as many words as it expects.
 abbrev pub Expected : ℕ → ℕ → Bool → ℕ → Type 0

@@ -1,51 +1,59 @@
-// A program's command: options, in any place, and words. --help is answered, and what is not expected is said.
+// A program's command: options, in any place, and words. --help and --version are answered, and what is not expected is said.
 ghost use mathlib.Core.Path.{_≡_};
 ghost use mathlib.Core.Bool.{false};
 ghost use Rattle.io.specs.Counts.{Counts};
 ghost use Rattle.files.specs.Words.{Expected};
 use crate::message::say;
 use crate::message::say_of;
+use crate::version::print_version;
 use crate::words::Word;
 use crate::words::is_option;
 use crate::words::kind;
 use libc::STDERR_FILENO;
 use libc::STDOUT_FILENO;
 
-// Whether the program goes on, whether its option is given, and how many words there are beside options.
+// Whether the program goes on, whether its option is given and the second one, and how many words there are beside options.
 pub struct Command {
     pub go: bool,
     pub option: bool,
+    pub second: bool,
     pub words: usize,
 }
 
-// The words of a command: whether --help and the program's option stand among them, the place of an option that is not known, or 0, and how
-// many are no options.
+// The words of a command: whether --help, --version and the program's options stand among them, the place of an option that is not known, or 0,
+// and how many are no options.
 struct Seen {
     help: bool,
+    version: bool,
     option: bool,
+    second: bool,
     unknown: usize,
     words: usize,
 }
 
 // A word that is longer than any path counts as an empty one.
-fn kind_at(i: usize, option: &[u8]) -> Word {
+fn kind_at(i: usize, option: &[u8], second: &[u8]) -> Word {
     let mut word = io::buffer();
     let n = os::arg(i, &mut word);
-    kind(&word[..n], b"--help", option)
+    kind(&word[..n], b"--help", b"--version", option, second)
 }
 
-fn see(option: &[u8]) -> Seen {
+fn see(option: &[u8], second: &[u8]) -> Seen {
     let count = os::arg_count();
     let mut help = false;
-    let mut known = false;
+    let mut version = false;
+    let mut one = false;
+    let mut two = false;
     let mut unknown = 0;
     let mut words = 0;
     let mut i = 1;
     while i < count {
-        let w = kind_at(i, option);
+        let w = kind_at(i, option, second);
         match w {
             Word::Help => help = true,
-            Word::Known => known = true,
+            Word::Version => version = true,
+            Word::First => one = true,
+            Word::Second => two = true,
             Word::Unknown => unknown = i,
             Word::Plain => words += 1,
         }
@@ -53,7 +61,9 @@ fn see(option: &[u8]) -> Seen {
     }
     Seen {
         help,
-        option: known,
+        version,
+        option: one,
+        second: two,
         unknown,
         words,
     }
@@ -108,21 +118,24 @@ fn refuse(program: &[u8], seen: Seen, least: usize, usage: &[u8]) {
 }
 
 fn stop() -> Command
-    ensures { λ r. ⌜ r ≡ record { go = false; option = false; words = 0 } ⌝ }
+    ensures { λ r. ⌜ r ≡ record { go = false; option = false; second = false; words = 0 } ⌝ }
 {
     Command {
         go: false,
         option: false,
+        second: false,
         words: 0,
     }
 }
 
 // The command, where it has from `least` to `most` words beside options, and no option that the program doesn't know. Otherwise what is
-// wrong is said, with the usage. --help writes the usage and the help, and the program does not go on.
+// wrong is said, with the usage. --help writes the usage and the help, --version the program's name and version, and it does not go on. An option that is
+// empty is never given.
 // Ruled out: a program that goes on without a word that it needs; one that goes on with a word that it won't look at.
-pub fn read(
+pub fn read_two(
     program: &[u8],
     option: &[u8],
+    second: &[u8],
     least: usize,
     most: usize,
     usage: &[u8],
@@ -130,11 +143,15 @@ pub fn read(
 ) -> Command
     ensures { λ r. ⌜ Expected least most (r .go) (r .words) ⌝ }
 {
-    let seen = see(option);
+    let seen = see(option, second);
     let words = seen.words;
     if seen.help {
         io::write_all(STDOUT_FILENO, usage);
         io::write_all(STDOUT_FILENO, help);
+        return stop();
+    }
+    if seen.version {
+        print_version(program);
         return stop();
     }
     if seen.unknown > 0 {
@@ -152,6 +169,22 @@ pub fn read(
     Command {
         go: true,
         option: seen.option,
+        second: seen.second,
         words,
     }
+}
+
+// The same for a program with one option, or with none, which is empty.
+// Ruled out: a program that goes on without a word that it needs; one that goes on with a word that it won't look at.
+pub fn read(
+    program: &[u8],
+    option: &[u8],
+    least: usize,
+    most: usize,
+    usage: &[u8],
+    help: &[u8],
+) -> Command
+    ensures { λ r. ⌜ Expected least most (r .go) (r .words) ⌝ }
+{
+    read_two(program, option, b"", least, most, usage, help)
 }

@@ -5,4 +5,5 @@ pub mod input;
 pub mod message;
 pub mod output;
 pub mod pieces;
+pub mod version;
 pub mod words;

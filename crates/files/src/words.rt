@@ -3,10 +3,13 @@ ghost use mathlib.Core.Path.{_≡_};
 ghost use Rattle.io.specs.Counts.{Counts};
 ghost use Rattle.files.specs.Words.{same, isOption, kind, joined, joinedLength};
 
-// What a word of a command is: --help, the option that the program knows, another option, or none, as a file's name or a number.
+// What a word of a command is: --help, --version, the first or the second option that the program knows, another option, or none, as a file's name or
+// a number.
 pub enum Word {
     Help,
-    Known,
+    Version,
+    First,
+    Second,
     Unknown,
     Plain,
 }
@@ -23,8 +26,8 @@ pub fn is_option(word: &[u8]) -> bool
 }
 
 // Ruled out: an option that the program doesn't know taken for one that it knows; an option taken for a file's name.
-pub fn kind(word: &[u8], help: &[u8], option: &[u8]) -> Word
-    ensures { λ r. ⌜ r ≡ kind (isOption (now (word .entry))) (same (now (word .entry)) (now (help .entry))) (same (now (word .entry)) (now (option .entry))) ⌝ }
+pub fn kind(word: &[u8], help: &[u8], version: &[u8], first: &[u8], second: &[u8]) -> Word
+    ensures { λ r. ⌜ r ≡ kind (now (word .entry)) (now (help .entry)) (now (version .entry)) (now (first .entry)) (now (second .entry)) ⌝ }
 {
     if !is_option(word) {
         return Word::Plain;
@@ -32,8 +35,14 @@ pub fn kind(word: &[u8], help: &[u8], option: &[u8]) -> Word
     if check::same(word, help) {
         return Word::Help;
     }
-    if check::same(word, option) {
-        return Word::Known;
+    if check::same(word, version) {
+        return Word::Version;
+    }
+    if check::same(word, first) {
+        return Word::First;
+    }
+    if check::same(word, second) {
+        return Word::Second;
     }
     Word::Unknown
 }

@@ -44,12 +44,23 @@ fn replace(bytes: &[u8]) {
 }
 
 fn main() {
-    let c = files::command::read(b"files_cases", b"--all", 8, 8, b"usage\n", b"help\n");
+    let c = files::command::read_two(
+        b"files_cases",
+        b"--all",
+        b"--each",
+        8,
+        8,
+        b"usage\n",
+        b"help\n",
+    );
     if !c.go {
         return;
     }
     if c.option {
         io::write_all(STDOUT_FILENO, b"--all\n");
+    }
+    if c.second {
+        io::write_all(STDOUT_FILENO, b"--each\n");
     }
     print_number(0);
     print_number(1);

@@ -124,19 +124,6 @@ fn text_of(fd: i32) -> Lines {
     t
 }
 
-fn with_fault(line: Line, fault: u8) -> Line {
-    match fault {
-        1 => line.write(b"no number\n"),
-        2 => line.write(b"a number above 65535\n"),
-        3 => line.write(b"more than three words\n"),
-        4 => line.write(b"fewer than three words\n"),
-        6 => line.write(b"a chip select above 15\n"),
-        7 => line.write(b"bits not from 8 to 16\n"),
-        8 => line.write(b"a word too big for its bits\n"),
-        _ => line.write(b"more than 16 set-points\n"),
-    }
-}
-
 fn say_line(line: Line) {
     let n = line.length;
     let bytes = line.bytes;
@@ -150,7 +137,7 @@ fn say_fault(r: Reading) {
         .write(b", column ")
         .decimal(20, r.fault_column)
         .write(b": ");
-    say_line(with_fault(place, r.fault));
+    say_line(show::with_fault(place, r.fault));
 }
 
 fn chosen(b: bool, weight: u16) -> u16
@@ -218,6 +205,10 @@ fn main() {
     let w = wanted::words();
     if w.help {
         help();
+        return;
+    }
+    if w.version {
+        files::version::print_version(b"plan");
         return;
     }
     if w.fault > 0 {

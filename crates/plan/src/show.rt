@@ -141,3 +141,17 @@ pub fn trace(plan: Plan) {
     }
     run_for(plan.clock);
 }
+
+// A line with what is wrong with a line of the set-points.
+pub fn with_fault(line: Line, fault: u8) -> Line {
+    match fault {
+        1 => line.write(b"no number\n"),
+        2 => line.write(b"a number above 65535\n"),
+        3 => line.write(b"more than three words\n"),
+        4 => line.write(b"fewer than three words\n"),
+        6 => line.write(b"a chip select above 15\n"),
+        7 => line.write(b"bits not from 8 to 16\n"),
+        8 => line.write(b"a word too big for its bits\n"),
+        _ => line.write(b"more than 16 set-points\n"),
+    }
+}

@@ -6,6 +6,7 @@ use text::number::parse_number;
 // A fault is the place of the argument that is not understood.
 pub struct Wanted {
     pub help: bool,
+    pub version: bool,
     pub cpol: bool,
     pub cpha: bool,
     pub trace: bool,
@@ -21,6 +22,7 @@ pub struct Wanted {
 fn least() -> Wanted {
     Wanted {
         help: false,
+        version: false,
         cpol: false,
         cpha: false,
         trace: false,
@@ -98,6 +100,10 @@ impl Wanted {
     fn option(mut self, i: usize, word: &[u8]) -> Wanted {
         if check::same(word, b"--help") {
             self.help = true;
+            return self;
+        }
+        if check::same(word, b"--version") {
+            self.version = true;
             return self;
         }
         if check::same(word, b"--cpol") {

@@ -6,14 +6,19 @@ use Rattle.files.proofs.command.see.Statement.{statement}
 use Rattle.files.proofs.command.see.Tie as tie
 
 abbrev Inv-loop : tie.InvT-loop
-Inv-loop option count help₀ known₀ unknown₀ words₀ i₀ help known unknown words i = words < i
+Inv-loop option second count help₀ version₀ one₀ two₀ unknown₀ words₀ i₀ help version one two unknown words i = words < i
 
 abbrev μ-loop : tie.MeasureT-loop
-μ-loop option count help₀ known₀ unknown₀ words₀ i₀ help known unknown words i = count - i
+μ-loop option second count help₀ version₀ one₀ two₀ unknown₀ words₀ i₀ help version one two unknown words i = count - i
 
 loop-again : tie.Need-loop-again Inv-loop μ-loop
 loop-again c =
-    ⊎-elim (λ h. omega arith) (⊎-elim (λ h. omega arith) (⊎-elim (λ h. omega arith) (λ h. omega arith))) (c .match .came)
+    ⊎-elim
+    (λ h. omega arith)
+    (⊎-elim
+    (λ h. omega arith)
+    (⊎-elim (λ h. omega arith) (⊎-elim (λ h. omega arith) (⊎-elim (λ h. omega arith) (λ h. omega arith)))))
+    (c .match .came)
 
 pub see-spec : {M : Type 1} → statement M
 see-spec =
@@ -24,6 +29,8 @@ see-spec =
     (λ c κs. search needs)
     (λ c. search needs)
     (λ c κs. search needs)
+    (λ c. search needs)
+    (λ c. search needs)
     (λ c. search needs)
     (λ c. search needs)
     (λ c. search needs)

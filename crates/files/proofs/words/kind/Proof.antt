@@ -31,14 +31,48 @@ returns-3 c =
 
 returns-4 : tie.Need-returns-4
 returns-4 c =
-    let asked = c .before .before .before .before .before .is-option in
+    let asked = c .before .before .before .before .before .before .before .is-option in
     rw (
       ← asked .ensures,
-      not-false (asked .result) (c .before .before .before .before .if1 .left),
-      ← same-is _ _ _ (c .before .before .before .same .ensures),
-      c .before .before .if2 .left,
-      ← same-is _ _ _ (c .before .same2 .ensures),
-      c .if3 .left,
+      not-false (asked .result) (c .before .before .before .before .before .before .if1 .left),
+      ← same-is _ _ _ (c .before .before .before .before .before .same .ensures),
+      c .before .before .before .before .if2 .left,
+      ← same-is _ _ _ (c .before .before .before .same2 .ensures),
+      c .before .before .if3 .left,
+      ← same-is _ _ _ (c .before .same3 .ensures),
+      c .if4 .taken,
+    )
+
+returns-5 : tie.Need-returns-5
+returns-5 c =
+    let asked = c .before .before .before .before .before .before .before .before .before .is-option in
+    rw (
+      ← asked .ensures,
+      not-false (asked .result) (c .before .before .before .before .before .before .before .before .if1 .left),
+      ← same-is _ _ _ (c .before .before .before .before .before .before .before .same .ensures),
+      c .before .before .before .before .before .before .if2 .left,
+      ← same-is _ _ _ (c .before .before .before .before .before .same2 .ensures),
+      c .before .before .before .before .if3 .left,
+      ← same-is _ _ _ (c .before .before .before .same3 .ensures),
+      c .before .before .if4 .left,
+      ← same-is _ _ _ (c .before .same4 .ensures),
+      c .if5 .taken,
+    )
+
+returns-6 : tie.Need-returns-6
+returns-6 c =
+    let asked = c .before .before .before .before .before .before .before .before .before .is-option in
+    rw (
+      ← asked .ensures,
+      not-false (asked .result) (c .before .before .before .before .before .before .before .before .if1 .left),
+      ← same-is _ _ _ (c .before .before .before .before .before .before .before .same .ensures),
+      c .before .before .before .before .before .before .if2 .left,
+      ← same-is _ _ _ (c .before .before .before .before .before .same2 .ensures),
+      c .before .before .before .before .if3 .left,
+      ← same-is _ _ _ (c .before .before .before .same3 .ensures),
+      c .before .before .if4 .left,
+      ← same-is _ _ _ (c .before .same4 .ensures),
+      c .if5 .left,
     )
 
 pub kind-spec : {M : Type 1} → statement M
@@ -51,4 +85,8 @@ kind-spec =
     returns-2
     (λ c κs. search needs)
     returns-3
-    returns-4)
+    (λ c κs. search needs)
+    returns-4
+    (λ c κs. search needs)
+    returns-5
+    returns-6)
