@@ -130,7 +130,7 @@ class Module(_Kept):
         return Counts(qsm_c.library.qsm_taken(self._state), qsm_c.library.qsm_lost(self._state))
 
     def until_change(self, rxd: bool = True, pins: int = 0xFF) -> int:
-        """The least number of clocks of a hold at these levels after which pins or request show something else; 0 if none does."""
+        """The least number of clocks at these levels after which pins or request show something else; 0 if they never will."""
         return int(qsm_c.library.qsm_until_change(self._state, *_levels(pins, rxd)))
 
 

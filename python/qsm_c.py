@@ -120,7 +120,7 @@ FUNCTIONS: dict[str, tuple[Any, list[Any]]] = {
     "qsm_noise": (c_uint8, [_MODULE]),
     "qsm_taken": (c_uint32, [_MODULE]),
     "qsm_lost": (c_uint32, [_MODULE]),
-    "qsm_until_change": (c_uint32, [Qsm, c_uint8, c_bool]),
+    "qsm_until_change": (c_uint64, [Qsm, c_uint8, c_bool]),
     "qsm_play": (Played, [Qsm, _BYTES, c_size_t, _BYTES, c_size_t]),
     "qsm_compare": (Compared, [c_char_p, c_size_t, c_char_p, c_size_t, POINTER(c_uint64), c_size_t]),
     "qsm_judge": (Judgement, [c_char_p, c_size_t, c_char_p, c_size_t]),

@@ -52,7 +52,7 @@ void board_see(struct board *b, struct qsm_answer next)
     hear(b, &next);
     convert(b, &next);
     b->seen = next;
-    uint32_t sleep = qsm_until_change(b->qsm, 0xFF, b->rxd);
+    uint64_t sleep = qsm_until_change(b->qsm, 0xFF, b->rxd);
     b->due = sleep && next.clock + sleep < b->edge ? next.clock + sleep : b->edge;
 }
 
