@@ -1,10 +1,11 @@
--- How long the lines of a comparison and of noise figures can be: each has room. Assumes nothing.
-use mathlib.Core.Bool.{not}
+-- How long the lines of a comparison, of noise figures and of an account can be: each has room. Assumes nothing.
+use mathlib.Core.Bool.{Bool, not}
 use Prim.Native.Nat.{ℕ, _≤_}
 use native.Mathlib.Omega.{arith}
 use lib.Dec.{eqb, ltb}
 use lib.Bits.{bitAnd}
 use lib.ListN.{length, length-append}
+use Rattle.steps.specs.Bits.{digit}
 use Rattle.qsm.specs.declared.event.Answer.{Answer}
 use Rattle.text.specs.Line.{room}
 use Rattle.text.specs.Log.{foreignKind}
@@ -12,6 +13,7 @@ use Rattle.text.specs.Answer.{unnamed}
 use Rattle.text.specs.Difference.{fieldName, kindText, refusalText, pinsText, levelText, fieldText, differenceLine}
 use Rattle.text.specs.Verdict.{equalLine, more, differLine, why, refusedLine, expected, otherLine}
 use Rattle.text.specs.Noise.{noiseLine, tallyLine}
+use Rattle.text.specs.Account.{accountLine}
 use Rattle.text.specs.declared.difference.Field.{Field}
 use Rattle.text.specs.declared.difference.Field.the-variants.{Kind, Refusal, Value, Levels, Mask, Level, Vector, Clock}
 use Rattle.text.specs.declared.log.Logged.{Logged}
@@ -92,3 +94,9 @@ noise-fits n figure = simp length-append (omega (arith, decimal-length 20 n, dec
 pub tally-fits : (words noisy worst : ℕ) → length (tallyLine words noisy worst) ≤ room
 tally-fits words noisy worst =
     simp length-append (omega (arith, decimal-length 20 words, decimal-length 20 noisy, decimal-length 3 worst))
+
+-- ---- the account
+
+pub account-fits : (taken lost : ℕ) (waiting : Bool) → length (accountLine taken lost waiting) ≤ room
+account-fits taken lost waiting =
+    simp length-append (omega (arith, decimal-length 10 taken, decimal-length 10 lost, decimal-length 1 (digit waiting)))

@@ -9,4 +9,5 @@ pub mod Message
 pub mod Difference
 pub mod Verdict
 pub mod Noise
+pub mod Account
 pub mod Laws

@@ -1,5 +1,6 @@
 // Logs and traces as text: the answer at the start of a log, the line that shows an answer, the line that shows a record's event, and the
 // line that says what is wrong.
+pub mod account;
 pub mod answer;
 mod claims;
 pub mod difference;
