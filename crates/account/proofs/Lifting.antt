@@ -1,7 +1,7 @@
 -- L14, lifted from the serial half to the module's events.
 use mathlib.Core.Path.{_≡_, ap, sym, subst, _∙_}
 use mathlib.Core.Bool.{false}
-use mathlib.Core.List.{List, _∷_, _++_}
+use mathlib.Core.List.{List, [], _∷_, _++_}
 use Rattle.sci.specs.Serial.{resetSci}
 use Rattle.sci.specs.History as sci
 use Rattle.sci.specs.Overrun.{Mark, hasReset}
@@ -17,8 +17,9 @@ use Rattle.qsm.specs.declared.event.Event.the-variants.{Reset}
 use Rattle.histories.specs.History.{run, log}
 use Rattle.histories.proofs.Lifted.{all, all-log, from-reset, reset-serial, afresh}
 use Rattle.account.specs.Report.{report}
-use Rattle.account.specs.Accounted.{Balanced, SinceReset, Accounted}
+use Rattle.account.specs.Accounted.{Balanced, SinceReset, sinceLast, WithResets, Accounted}
 use Rattle.account.specs.declared.Report.{Report}
+use Rattle.account.proofs.Since.{no-reset, from-start}
 
 -- The marks and the serial half of a module since a reset are those of its steps.
 pub log-steps : (es : List Event) → log es resetModule ≡ marks.log (all es resetModule) resetSci
@@ -40,9 +41,15 @@ since-reset : SinceReset
 since-reset m before es e =
     subst (λ (k : Module). Balanced (log es resetModule) (report k)) (sym (afresh before es m)) (balanced es e)
 
+pub with-resets : WithResets
+with-resets es =
+    subst (λ (k : Module). Balanced (log (sinceLast [] es) resetModule) (report k)) (sym (from-start es))
+    (balanced (sinceLast [] es) (no-reset es))
+
 pub accounted : Accounted
 accounted =
     record {
       sinceReset = since-reset;
+      withResets = with-resets;
       oneRise = λ es. subst OneRise (sym (log-steps es)) (serial.balance .oneRise (all es resetModule));
     }

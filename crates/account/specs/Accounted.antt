@@ -1,7 +1,7 @@
 -- Document 02, L14, of the module: frames taken equal words delivered, plus the one waiting, plus frames lost, counted from the history since a
 -- reset by demand 3's marks.
 use mathlib.Core.Bool.{false}
-use mathlib.Core.List.{List, _∷_, _++_}
+use mathlib.Core.List.{List, [], _∷_, _++_}
 use mathlib.Core.Path.{_≡_}
 use Prim.Native.Nat.{_+_, _≤_, min}
 use Rattle.steps.specs.Bits.{digit}
@@ -11,7 +11,8 @@ use Rattle.sci.specs.Balance.{takenIn, lostIn, deliveredIn, OneRise}
 use Rattle.qsm.specs.State.{resetModule}
 use Rattle.qsm.specs.declared.state.Module.{Module}
 use Rattle.qsm.specs.declared.event.Event.{Event}
-use Rattle.qsm.specs.declared.event.Event.the-variants.{Reset}
+use Rattle.qsm.specs.declared.event.Event.the-variants.{Reset, Hold}
+use Rattle.qsm.specs.declared.event.Event.the-variants as event
 use Rattle.histories.specs.History.{run, log}
 use Rattle.account.specs.Report.{report}
 use Rattle.account.specs.declared.Report.{Report}
@@ -31,7 +32,19 @@ SinceReset =
     (m : Module) (before es : List Event) → hasReset (log es resetModule) ≡ false →
     Balanced (log es resetModule) (report (run (before ++ (Reset ∷ es)) m))
 
+-- The events since the last reset among them; where there is none, all, behind those that came before.
+unfoldable pub sinceLast : List Event → List Event → List Event
+sinceLast came [] = came
+sinceLast came (Reset ∷ es) = sinceLast [] es
+sinceLast came (Hold pins rxd n ∷ es) = sinceLast (came ++ (Hold pins rxd n ∷ [])) es
+sinceLast came (event.Access a ∷ es) = sinceLast (came ++ (event.Access a ∷ [])) es
+
+-- So of a whole list of events, as a trace has them, with any resets: the report is of those since the last.
+abbrev pub WithResets : Type 0
+WithResets = (es : List Event) → Balanced (log (sinceLast [] es) resetModule) (report (run es resetModule))
+
 -- Each run of losses has one rise of OR, with its first frame, resets among the events or not.
 pub record Accounted : Type 0 where
   pub sinceReset : SinceReset
+  pub withResets : WithResets
   pub oneRise : (es : List Event) → OneRise (log es resetModule)
