@@ -1,11 +1,15 @@
 // Plays a trace on a module fresh from reset: from a file or from standard input, of any length, to a log on standard output.
+ghost use Rattle.replay.specs.Reached.{Reached};
 use files::message::fail;
 use files::message::say;
 use files::message::say_first;
+use frames::say_account;
 use run::Next;
+use run::Run;
 use run::Turned;
 use text::line::Line;
 
+mod frames;
 mod noise;
 mod run;
 
@@ -28,25 +32,31 @@ fn report(t: Turned, name: &[u8]) {
     }
 }
 
-fn play(fd: i32, noise: bool, name: &[u8]) {
+// Plays a trace, and gives the run at its end or at its stop.
+fn play(fd: i32, noise: bool, name: &[u8]) -> Run
+    ensures { λ r. ⌜ Reached r ⌝ }
+{
     if noise {
         let n = noise::replay(fd);
         let t = n.turned;
         let tally = n.tally;
         report(t, name);
         noise::say_tally(tally);
-    } else {
-        report(run::replay(fd), name);
+        return t.run;
     }
+    let t = run::replay(fd);
+    report(t, name);
+    t.run
 }
 
 fn main() {
-    let c = files::command::read(
+    let c = files::command::read_two(
         b"replay",
         b"--noise",
+        b"--account",
         0,
         1,
-        b"usage: replay [--noise] [TRACE]\n",
+        b"usage: replay [--noise] [--account] [TRACE]\n",
         b"\
 Plays a trace on a module fresh from reset and writes its log, 18 bytes for each
 record, to standard output. Without TRACE, or with -, it reads standard input.
@@ -67,6 +77,11 @@ noisy, and the worst figure. A lost frame has none. The log is the same.
   0: noise 0
   1: noise 3
   words 2, noisy 1, worst 3
+
+With --account standard error says at the end, or at the stop, how many frames were taken
+since the last reset, how many of them were lost, and whether a word waits in SCDR. The
+others were read. The log is the same; both options may be given.
+  taken 3, lost 2, waiting 1
 ",
     );
     if !c.go {
@@ -79,6 +94,9 @@ noisy, and the worst figure. A lost frame has none. The log is the same.
     if fd < 0 {
         return;
     }
-    play(fd, c.option, &name[..n]);
+    let run = play(fd, c.option, &name[..n]);
     libc::close(fd);
+    if c.second {
+        say_account(run);
+    }
 }

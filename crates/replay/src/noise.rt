@@ -7,6 +7,7 @@ ghost use Rattle.arrivals.specs.Tally.{withArrival};
 ghost use Rattle.text.specs.Line.{Shows};
 ghost use Rattle.text.specs.Noise.{noiseLine};
 ghost use Rattle.replay.specs.Noted.{Notes};
+ghost use Rattle.replay.specs.Reached.{Reached};
 use crate::run::Next;
 use crate::run::Run;
 use crate::run::Turned;
@@ -24,7 +25,7 @@ pub struct Noted {
     pub tally: Tally,
 }
 
-fn write_line(line: Line) {
+pub fn write_line(line: Line) {
     let n = line.length;
     let bytes = line.bytes;
     write_first(STDERR_FILENO, &bytes, n);
@@ -75,6 +76,7 @@ fn answer() -> [u8; 18]
 // Ruled out: a tally of no words where one waits in SCDR; more noisy words than words.
 pub fn replay(fd: i32) -> Noted
     ensures { λ r. ⌜ Notes (r .turned .run) (r .tally) ⌝ }
+    ensures { λ r. ⌜ Reached (r .turned .run) ⌝ }
 {
     let mut buf = records();
     let mut out = answer();

@@ -6,6 +6,7 @@ ghost use lib.ListN.{length, take};
 ghost use Rattle.io.specs.Counts.{Counts};
 ghost use Rattle.trace.specs.Play.{play, Plays};
 ghost use Rattle.replay.specs.Run.{started, afterStop, Advances, Turns};
+ghost use Rattle.replay.specs.Reached.{Reached};
 use files::pieces::carry;
 use files::pieces::counted;
 use files::pieces::fill;
@@ -152,7 +153,10 @@ fn answers() -> [u8; 589824]
     [0u8; 589824]
 }
 
-pub fn replay(fd: i32) -> Turned {
+// Ruled out: a module that the records answered don't lead to; an account that is not of the events since the last reset.
+pub fn replay(fd: i32) -> Turned
+    ensures { λ r. ⌜ Reached (r .run) ⌝ }
+{
     let mut buf = io::large_buffer();
     let mut out = answers();
     let mut run = Run::start();

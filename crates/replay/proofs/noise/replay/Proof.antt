@@ -6,6 +6,7 @@ use lib.ListN.{length}
 use Rattle.trace.specs.Trace.{answerLength}
 use Rattle.replay.specs.Noted.{Notes}
 use Rattle.replay.proofs.Noting.{at-start, goes-on}
+use Rattle.replay.proofs.Reaching.{noted}
 use Rattle.replay.proofs.noise.replay.Statement.{statement}
 use Rattle.replay.proofs.noise.replay.Tie as tie
 
@@ -27,7 +28,8 @@ returns c =
     let loop = c .before .before .before .before .before .before .before .before .before .before .before .loop in
     let turn = c .before .before .before .before .before .before .turn in
     let small : length (loop .out) < 2 * answerLength = omega (arith, loop .inv .1) in
-    rw (c .before .note .ensures) (goes-on (loop .run) (loop .tally) (length (loop .out)) (turn .result) small (loop .inv .2) (turn .ensures))
+    let next = goes-on (loop .run) (loop .tally) (length (loop .out)) (turn .result) small (loop .inv .2) (turn .ensures) in
+    (rw (c .before .note .ensures) next, noted next)
 
 loop-again : tie.Need-loop-again Inv-loop μ-loop
 loop-again c =
@@ -40,7 +42,7 @@ loop-again c =
     )
 
 returns-2 : tie.Need-returns-2 Inv-loop μ-loop
-returns-2 c = c .before .loop .inv .2
+returns-2 c = (c .before .loop .inv .2, noted (c .before .loop .inv .2))
 
 pub replay-spec : {M : Type 1} → statement M
 replay-spec =
