@@ -5,5 +5,6 @@ pub mod input;
 pub mod message;
 pub mod output;
 pub mod pieces;
+pub mod progress;
 pub mod version;
 pub mod words;

@@ -3,6 +3,7 @@ ghost use mathlib.Core.Path.{_≡_};
 ghost use Prim.Native.Nat.{_-_, min};
 ghost use Rattle.io.specs.Counts.{Counts};
 ghost use Rattle.files.specs.Pieces.{counted, carried, left, Fills};
+use crate::progress::tell;
 
 // How many bytes the buffer now has, whether the input has ended, and whether it could not be read.
 pub struct Filled {
@@ -40,6 +41,7 @@ pub fn fill(fd: i32, buf: &mut [u8], have: usize, ended: bool) -> Filled
         };
     }
     let n = io::count(got, &buf[have..]);
+    tell(fd, n);
     Filled {
         total: have + n,
         ended,

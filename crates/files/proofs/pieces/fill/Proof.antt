@@ -33,10 +33,10 @@ returns-3 c =
 
 returns-4 : tie.Need-returns-4
 returns-4 c =
-    let args = c .before .before .before .before .before .before .before .before .before .before .before .args in
+    let args = c .before .before .before .before .before .before .before .before .before .before .before .before .args in
     let room = length (now (args .buf)) - args .have in
-    let came = c .before .before .before .before .before .before .read .last .1 .0 in (
-      counts (args .have + c .count .result) (putMid (args .have) room (now (args .buf)) came) (search needs),
+    let came = c .before .before .before .before .before .before .before .read .last .1 .0 in (
+      counts (args .have + c .before .count .result) (putMid (args .have) room (now (args .buf)) came) (search needs),
       record {
         least = omega arith;
         most = search needs;
@@ -59,6 +59,7 @@ fill-spec =
     (λ c. search needs)
     (λ c. search needs)
     (λ c. search needs)
+    (λ c κs. search needs)
     (λ c κs. search needs)
     (λ c. search needs)
     (λ c. search needs)
