@@ -12,6 +12,7 @@ use trace::Stop;
 mod piece;
 mod run;
 mod show;
+mod turns;
 
 fn stop_of(number: u8) -> Stop {
     match number {
@@ -100,7 +101,7 @@ Either file may be -, standard input.
         say(b"judge", b"one of the two files must be named\n");
         return;
     }
-    report(run::judge(trace, log));
+    report(turns::judge(trace, log));
     libc::close(trace);
     libc::close(log);
 }

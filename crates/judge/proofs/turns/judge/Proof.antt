@@ -2,8 +2,8 @@ use mathlib.Core.Path.{_≡_, sym}
 use native.Mathlib.Omega.{arith}
 use lib.ListN.{length}
 use borrow.Author.Needs.{needs}
-use Rattle.judge.proofs.run.judge.Statement.{statement}
-use Rattle.judge.proofs.run.judge.Tie as tie
+use Rattle.judge.proofs.turns.judge.Statement.{statement}
+use Rattle.judge.proofs.turns.judge.Tie as tie
 
 abbrev Inv-loop : tie.InvT-loop
 Inv-loop trace log buf₀ bytes₀ run₀ turns₀ buf bytes run turns = (length buf ≡ 65536) × (length bytes ≡ 65536)
