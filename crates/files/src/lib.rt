@@ -7,4 +7,5 @@ pub mod output;
 pub mod pieces;
 pub mod progress;
 pub mod version;
+pub mod whole;
 pub mod words;

@@ -2,8 +2,13 @@
 use files::message::fail;
 use files::message::say;
 use files::message::say_first;
+use files::message::say_of;
 use files::output::write_first;
+use files::whole::whole;
 use libc::STDOUT_FILENO;
+use marks::stored::BYTES;
+use marks::stored::decode;
+use marks::stored::numbers;
 use run::Next;
 use text::line::Line;
 use text::number::Number;
@@ -58,12 +63,24 @@ fn report(number: u64, next: Next, name: &[u8]) {
     }
 }
 
+// The marks of the file, and the record by them.
 fn look(path: &[u8], number: u64) {
-    let mut lent = marks_file::numbers();
-    let l = marks_file::load(b"find", path, false, &mut lent);
-    if !l.read {
+    let mut stored = io::large_buffer();
+    let w = whole(b"find", path, false, &mut stored);
+    let bytes = w.count;
+    if !w.read {
         return;
     }
+    if w.more | (bytes % BYTES != 0) {
+        say_of(b"find", b"no file of marks: ", path);
+        return;
+    }
+    let mut lent = numbers();
+    let count = decode(&stored[..bytes], &mut lent);
+    find(&lent, count, number);
+}
+
+fn find(lent: &[u64], count: usize, number: u64) {
     let mut name = io::buffer();
     let i = files::input::open(b"find", 0, &mut name);
     let fd = i.fd;
@@ -71,7 +88,7 @@ fn look(path: &[u8], number: u64) {
     if fd < 0 {
         return;
     }
-    let next = run::find(fd, &lent, l.count, number);
+    let next = run::find(fd, lent, count, number);
     report(number, next, &name[..n]);
     libc::close(fd);
 }

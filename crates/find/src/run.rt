@@ -2,6 +2,7 @@
 use files::pieces::carry;
 use files::pieces::fill;
 use files::pieces::least;
+use files::whole::seek;
 use marks::walk::Position;
 use qsm::event::Event;
 use trace::Parsed;
@@ -81,15 +82,17 @@ fn turn(fd: i32, run: Run, buf: &mut [u8], number: u64) -> Turned {
     }
 }
 
-// The mark before the record, or the last one, if the trace goes on there; else its start.
+// The mark before the record, or the last one, if the trace goes on there; else its start. A mark that no trace can have is not gone to.
 fn begin(fd: i32, lent: &[u64], count: usize, number: u64) -> Run {
     let mark = marks::index::mark_for(lent, count, number);
-    if marks_file::go_to(fd, mark) {
-        return Run {
-            at: mark,
-            have: 0,
-            ended: false,
-        };
+    if mark.possible(u64::MAX) {
+        if seek(fd, mark.place) {
+            return Run {
+                at: mark,
+                have: 0,
+                ended: false,
+            };
+        }
     }
     Run {
         at: Position::start(),

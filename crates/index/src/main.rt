@@ -2,15 +2,22 @@
 use files::message::fail;
 use files::message::say;
 use files::message::say_first;
+use files::message::say_of;
 use files::output::write_first;
+use files::whole::whole;
 use libc::STDOUT_FILENO;
+use marks::stored::BYTES;
+use marks::stored::decode;
+use marks::stored::numbers;
 use run::Next;
 use run::Run;
 use run::Turned;
+use save::save;
 use text::line::Line;
 use trace::Stop;
 
 mod run;
+mod save;
 
 fn say_line(line: Line) {
     let n = line.length;
@@ -38,7 +45,7 @@ fn count_line(marks: u64, records: u64) -> Line {
 // How many marks and records the trace has, once its marks are in the file.
 fn keep(path: &[u8], lent: &[u64], r: Run) {
     let at = r.at;
-    if marks_file::save(b"index", path, lent, r.marks) {
+    if save(b"index", path, lent, r.marks) {
         print_line(count_line(r.marks as u64, at.number));
     }
 }
@@ -66,12 +73,24 @@ fn report(t: Turned, path: &[u8], lent: &[u64], name: &[u8]) {
     }
 }
 
+// The marks of the file, if there is one, and then those of the trace.
 fn make(path: &[u8]) {
-    let mut lent = marks_file::numbers();
-    let l = marks_file::load(b"index", path, true, &mut lent);
-    if !l.read {
+    let mut stored = io::large_buffer();
+    let w = whole(b"index", path, true, &mut stored);
+    let bytes = w.count;
+    if !w.read {
         return;
     }
+    if w.more | (bytes % BYTES != 0) {
+        say_of(b"index", b"no file of marks: ", path);
+        return;
+    }
+    let mut lent = numbers();
+    let count = decode(&stored[..bytes], &mut lent);
+    extend(path, &mut lent, count);
+}
+
+fn extend(path: &[u8], lent: &mut [u64], count: usize) {
     let mut name = io::buffer();
     let i = files::input::open(b"index", 0, &mut name);
     let fd = i.fd;
@@ -79,8 +98,8 @@ fn make(path: &[u8]) {
     if fd < 0 {
         return;
     }
-    let t = run::index(fd, &mut lent, l.count);
-    report(t, path, &lent, &name[..n]);
+    let t = run::index(fd, lent, count);
+    report(t, path, lent, &name[..n]);
     libc::close(fd);
 }
 

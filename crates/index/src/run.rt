@@ -2,6 +2,7 @@
 use files::pieces::carry;
 use files::pieces::fill;
 use files::pieces::least;
+use files::whole::seek;
 use marks::index::Indexed;
 use marks::walk::Position;
 
@@ -82,16 +83,18 @@ fn turn(fd: i32, run: Run, buf: &mut [u8], lent: &mut [u64]) -> Turned {
     }
 }
 
-// The last mark, if the trace goes on there; else its start, and marks afresh.
+// The last mark, if the trace goes on there; else its start, and marks afresh. A mark that no trace can have is not gone to.
 fn begin(fd: i32, lent: &[u64], count: usize) -> Run {
     let last = marks::index::mark_for(lent, count, u64::MAX);
-    if marks_file::go_to(fd, last) {
-        return Run {
-            at: last,
-            marks: count,
-            have: 0,
-            ended: false,
-        };
+    if last.possible(u64::MAX) {
+        if seek(fd, last.place) {
+            return Run {
+                at: last,
+                marks: count,
+                have: 0,
+                ended: false,
+            };
+        }
     }
     Run {
         at: Position::start(),

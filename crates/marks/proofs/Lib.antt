@@ -8,3 +8,4 @@ pub mod Resuming
 pub mod Origin
 pub mod Lawful
 pub mod InPieces
+pub mod Decoding

@@ -28,7 +28,7 @@ pub struct Indexed {
     pub refusal: u8,
 }
 
-fn least(x: usize, y: usize) -> usize
+pub(crate) fn least(x: usize, y: usize) -> usize
     ensures { λ r. ⌜ r ≡ min x y ⌝ }
 {
     if x < y { x } else { y }

@@ -3,4 +3,5 @@
 mod claims;
 pub mod find;
 pub mod index;
+pub mod stored;
 pub mod walk;

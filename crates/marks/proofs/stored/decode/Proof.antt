@@ -1,18 +1,21 @@
-use mathlib.Core.Path.{_≡_, refl}
-use Prim.Native.Nat.{_-_, _/_, _≤_}
+use mathlib.Core.Path.{_≡_, refl, sym, ap, _∙_}
+use Prim.Native.Nat.{_-_, _≤_}
 use native.Mathlib.Omega.{arith}
+use denote.Ref.{now}
 use lib.ListN.{length, length-set}
-use Rattle.marks_file.proofs.decode.Statement.{statement}
-use Rattle.marks_file.proofs.decode.Tie as tie
+use Rattle.marks.specs.Stored.{storedIn, decoded}
+use Rattle.marks.proofs.Decoding.{none-yet, one-more}
+use Rattle.marks.proofs.stored.decode.Statement.{statement}
+use Rattle.marks.proofs.stored.decode.Tie as tie
 
 abbrev Inv-loop : tie.InvT-loop
-Inv-loop bytes lent₀ n i₀ lent i = (i ≤ n) × (length lent ≡ length lent₀) × (n ≤ length lent₀ / 2) × (n ≤ length bytes / 16)
+Inv-loop bytes lent₀ n i₀ lent i = (i ≤ n) × (length lent ≡ length lent₀) × (n ≡ storedIn bytes lent₀) × (lent ≡ decoded bytes lent₀ i)
 
 abbrev μ-loop : tie.MeasureT-loop
 μ-loop bytes lent₀ n i₀ lent i = n - i
 
 loop-holds : tie.Need-loop-holds Inv-loop μ-loop
-loop-holds c = (omega arith, refl, omega arith, omega arith)
+loop-holds c = (omega arith, refl, c .least .ensures, none-yet _ _)
 
 mul-number-at : tie.Need-mul-number-at Inv-loop μ-loop
 mul-number-at c = omega arith
@@ -51,10 +54,23 @@ slice-write-lent-2 : tie.Need-slice-write-lent-2 Inv-loop μ-loop
 slice-write-lent-2 c = simp length-set (omega arith)
 
 loop-again : tie.Need-loop-again Inv-loop μ-loop
-loop-again c = (omega arith, simp length-set (omega arith), omega arith, omega arith)
+loop-again c =
+    let loop = c .before .before .before .loop in
+    let args = c .before .before .before .before .before .before .before .args in (
+      omega arith,
+      simp length-set (omega arith),
+      loop .inv .2,
+      rw (c .number-at2 .ensures, c .before .number-at .ensures, loop .inv .3) (sym (one-more (now (args .bytes)) (now (args .lent)) (loop .i))),
+    )
 
 same-length : tie.Need-same-length Inv-loop μ-loop
 same-length c = omega arith
+
+returns : tie.Need-returns Inv-loop μ-loop
+returns c =
+    let loop = c .before .loop in
+    let all : loop .i ≡ c .before .before .least .result = omega arith in
+    (c .before .before .least .ensures, loop .inv .3 ∙ ap (decoded _ _) all)
 
 pub decode-spec : {M : Type 1} → statement M
 decode-spec =
@@ -80,4 +96,4 @@ decode-spec =
     loop-less
     loop-again
     same-length
-    (λ c. tt))
+    returns)

@@ -3,10 +3,19 @@ ghost use mathlib.Core.Path.{_≡_};
 ghost use Prim.Native.Nat.{_+_, _≤_};
 ghost use lib.ListN.{length};
 ghost use Rattle.trace.specs.Trace.{wordAt};
-ghost use Rattle.marks_file.specs.Stored.{ofWords, numberAt, markBytes};
+ghost use Rattle.marks.specs.Stored.{ofWords, numberAt, markBytes, storedIn, decoded};
+use crate::index::least;
 
 // The bytes of a mark.
-pub(crate) const BYTES: usize = 16;
+pub const BYTES: usize = 16;
+
+// Room for every mark that an index has.
+// Ruled out: fewer numbers than two for each of 4,096 marks; more.
+pub fn numbers() -> [u64; 8192]
+    ensures { λ r. ⌜ 8192 ≡ length r ⌝ }
+{
+    [0u64; 8192]
+}
 
 fn of_words(a: u16, b: u16, c: u16, d: u16) -> u64
     ensures { λ r. ⌜ r ≡ ofWords a b c d ⌝ }
@@ -23,7 +32,7 @@ fn word_at(bytes: &[u8], at: usize) -> u16
 
 // The number that starts at a place.
 // Ruled out: the lower word first; a number cut by the end.
-pub(crate) fn number_at(bytes: &[u8], at: usize) -> u64
+fn number_at(bytes: &[u8], at: usize) -> u64
     ensures { λ r. ⌜ r ≡ numberAt (now (bytes .entry)) at ⌝ }
 {
     if bytes.len() < 8 {
@@ -42,7 +51,7 @@ pub(crate) fn number_at(bytes: &[u8], at: usize) -> u64
 
 // A mark's bytes.
 // Ruled out: the resets first; the lowest byte first.
-pub(crate) fn mark_bytes(place: u64, resets: u64) -> [u8; 16]
+pub fn mark_bytes(place: u64, resets: u64) -> [u8; 16]
     ensures { λ r. ⌜ r ≡ markBytes place resets ⌝ }
 {
     [
@@ -63,4 +72,20 @@ pub(crate) fn mark_bytes(place: u64, resets: u64) -> [u8; 16]
         (resets / 256 % 256) as u8,
         (resets % 256) as u8,
     ]
+}
+
+// The marks that bytes hold, into lent numbers as far as these go; how many there are.
+// Ruled out: a place for its resets; a number behind the marks changed.
+pub fn decode(bytes: &[u8], lent: &mut [u64]) -> usize
+    ensures { λ r. ⌜ r ≡ storedIn (now (bytes .entry)) (now (lent .entry)) ⌝ }
+    ensures { λ r. ⌜ now (lent .exit) ≡ decoded (now (bytes .entry)) (now (lent .entry)) r ⌝ }
+{
+    let n = least(bytes.len() / BYTES, lent.len() / 2);
+    let mut i: usize = 0;
+    while i < n {
+        lent[2 * i] = number_at(bytes, 16 * i);
+        lent[2 * i + 1] = number_at(bytes, 16 * i + 8);
+        i += 1;
+    }
+    n
 }

@@ -1,9 +1,9 @@
 -- Marks as a file keeps them: sixteen bytes a mark, its place and then its resets, big-endian.
 use mathlib.Core.Bool.{cond}
 use mathlib.Core.List.{List, [], _∷_}
-use Prim.Native.Nat.{ℕ, _+_, _*_, _/_, _%_}
+use Prim.Native.Nat.{ℕ, zero, suc, _+_, _*_, _/_, _%_, min}
 use lib.Dec.{ltb}
-use lib.ListN.{length}
+use lib.ListN.{length, set}
 use Rattle.trace.specs.Trace.{wordAt}
 
 abbrev pub ofWords : ℕ → ℕ → ℕ → ℕ → ℕ
@@ -33,3 +33,12 @@ markBytes n m =
     m / 256 % 256 ∷
     m % 256 ∷
     []
+
+-- The marks that bytes hold and lent numbers have room for.
+abbrev pub storedIn : List ℕ → List ℕ → ℕ
+storedIn t lent = min (length t / 16) (length lent / 2)
+
+-- Lent numbers with the first so many marks of the bytes; every other number is as it was.
+unfoldable pub decoded : List ℕ → List ℕ → ℕ → List ℕ
+decoded t lent zero = lent
+decoded t lent (suc i) = set (set (decoded t lent i) (2 * i) (numberAt t (16 * i))) (2 * i + 1) (numberAt t (16 * i + 8))

@@ -2,8 +2,8 @@ use Prim.Native.Nat.{_-_, _/_, _≤_}
 use native.Mathlib.Omega.{arith}
 use borrow.Author.Needs.{needs}
 use lib.ListN.{length}
-use Rattle.marks_file.proofs.write.Statement.{statement}
-use Rattle.marks_file.proofs.write.Tie as tie
+use Rattle.index.proofs.save.write.Statement.{statement}
+use Rattle.index.proofs.save.write.Tie as tie
 
 abbrev Inv-loop : tie.InvT-loop
 Inv-loop fd lent count n i₀ i = (i ≤ n) × (n ≤ length lent / 2)

@@ -3,8 +3,8 @@ use native.Mathlib.Omega.{arith}
 use borrow.Author.Needs.{needs}
 use borrow.Author.Tests.{lt-ltb, le-ltb}
 use lib.ListN.{length}
-use Rattle.marks_file.proofs.stored.number_at.Statement.{statement}
-use Rattle.marks_file.proofs.stored.number_at.Tie as tie
+use Rattle.marks.proofs.stored.number_at.Statement.{statement}
+use Rattle.marks.proofs.stored.number_at.Tie as tie
 
 returns : tie.Need-returns
 returns c =
