@@ -47,7 +47,8 @@ pub fn shown(m: Module) -> Look
 }
 
 impl Look {
-    fn same(self, b: Look) -> bool
+    // Ruled out: pins compared without which are driven; a vector that changed alone passed over.
+    pub fn same(self, b: Look) -> bool
         ensures { λ r. ⌜ r ≡ sameLook self b ⌝ }
     {
         (self.levels == b.levels)

@@ -1,0 +1,84 @@
+-- Turns, over and over, give the changes of the whole trace, each at its own clock.
+use mathlib.Core.Path.{_≡_}
+use mathlib.Core.Bool.{true, cond}
+use mathlib.Core.List.{List, [], _∷_}
+use Prim.Native.Nat.{ℕ, zero, suc, _+_, _-_, _*_, _^_, _<_}
+use lib.Dec.{eqb}
+use lib.ListN.{length, drop}
+use Rattle.steps.specs.Iterate.{iterate}
+use Rattle.qsm.specs.Event.{does, held}
+use Rattle.qsm.specs.declared.event.Event.{Event}
+use Rattle.qsm.specs.declared.event.Event.the-variants.{Reset, Hold}
+use Rattle.qsm.specs.declared.event.Event.the-variants as event
+use Rattle.trace.specs.Trace.{byteAt}
+use Rattle.changes.specs.Laws.{started}
+use Rattle.waves.specs.View.{none}
+use Rattle.waves.specs.Probe.{tick, limited}
+use Rattle.waves.specs.Drawn.{stepTo, ticks, after, stops, Drawn, stopped, followed, drawnFrom, changes}
+use Rattle.waves.specs.Turn.{begun, turn}
+use Rattle.waves.specs.declared.Outcome.{Outcome}
+use Rattle.waves.specs.declared.Outcome.the-variants as told
+use Rattle.waves.specs.declared.probe.Probe.{Probe}
+use Rattle.waves.specs.declared.Waves.{Waves}
+
+-- The changes to come from a state: of the hold under way, clock by clock, and of the trace from its place on.
+abbrev pub meant : List ℕ → Waves → Drawn
+meant t s =
+    cond (eqb (s .left) 0) (drawnFrom (s .probe) (drop (s .at) t))
+    (cond (limited (s .probe) (s .left)) (stopped 10)
+    (followed (ticks (s .left) (s .probe)) (drawnFrom (iterate (s .left) tick (s .probe)) (drop (s .at) t))))
+
+-- What a turn told, and then what came after it.
+abbrev pub telling : Outcome → Drawn → Drawn
+telling told.Nothing rest = rest
+telling (told.Drawn s) rest = followed (s ∷ []) rest
+telling (told.Stopped why) rest = stopped why
+telling told.Ended rest = stopped 0
+
+-- At most so many turns, each from the state that the one before it left.
+unfoldable pub overAndOver : ℕ → List ℕ → Waves → Drawn
+overAndOver zero t s = stopped 0
+overAndOver (suc k) t s = telling (turn t s .outcome) (overAndOver k t (turn t s .state))
+
+-- Each turn takes a byte of the trace, of which none brings as many as 2^32 clocks, or a clock of the hold under way.
+abbrev pub turnsLeft : List ℕ → Waves → ℕ
+turnsLeft t s = (length t - s .at) * 2 ^ 32 + s .left
+
+-- A trace is a list of bytes.
+abbrev pub Bytes : List ℕ → Type 0
+Bytes t = (i : ℕ) → byteAt t i < 256
+
+-- Turned over and over, the library gives the changes of the definition, each once and in order, and then the stop or the end; from any state.
+abbrev pub Whole : Type 0
+Whole = (t : List ℕ) (s : Waves) (k : ℕ) → Bytes t → s .left < 2 ^ 32 → turnsLeft t s < k → overAndOver k t s ≡ meant t s
+
+-- So from the start of a trace, on a module fresh from reset.
+abbrev pub FromStart : Type 0
+FromStart = (t : List ℕ) → meant t begun ≡ changes t
+
+-- The device is the module's own: each event that doesn't stop the trace leaves it as the step does, and takes as many clocks as it has; a
+-- reset takes none back.
+abbrev pub clocksOf : Event → ℕ
+clocksOf Reset = 0
+clocksOf (Hold pins rxd n) = n
+clocksOf (event.Access a) = 0
+
+abbrev pub Own : Type 0
+Own = (p : Probe) (e : Event) → stops p e ≡ 0 → after p e .device ≡ does (p .device) e .state
+
+abbrev pub Forward : Type 0
+Forward = (p : Probe) (e : Event) → after p e .clock ≡ p .clock + clocksOf e
+
+-- A queue that starts with SPBR 4: of the first four clocks of a hold, SCK turns in the last.
+abbrev pub running : Probe
+running = record { clock = 0; known = true; given = true; rxd = true; kept = none; device = held started 0xFF }
+
+abbrev pub Met : Type 0
+Met = ticks 4 running ≡ stepTo (iterate 3 tick running) (iterate 4 tick running) 0 ∷ []
+
+pub record Shown : Type 0 where
+  pub whole : Whole
+  pub from-start : FromStart
+  pub own : Own
+  pub forward : Forward
+  pub met : Met
