@@ -14,10 +14,11 @@ use Rattle.qsm.specs.declared.event.Stepped.{Stepped}
 use Rattle.qsm.proofs.Limit.{hold-refused, has-room}
 use Rattle.qsm.proofs.Splitting.{splits, refused-in-parts}
 use Rattle.changes.specs.Change.{lookOf, look, sameLook, differs, untilChange}
-use Rattle.changes.specs.Laws.{OfAHold, Never, after}
+use Rattle.changes.specs.Laws.{Never, Shown, after}
 use Rattle.changes.specs.declared.Look.{Look}
 use Rattle.changes.specs.declared.Change.the-variants.{Nothing}
-use Rattle.changes.proofs.Leastly.{none-found, of-a-hold}
+use Rattle.changes.proofs.Leastly.{least, none-found, of-a-hold}
+use Rattle.changes.proofs.Example.{met, none-met}
 
 same-as-itself : (l : Look) → sameLook l l ≡ true
 same-as-itself l =
@@ -101,3 +102,6 @@ module _ (m : Module) (pins : ℕ) (rxd : Bool) (none : untilChange m pins rxd �
 
 pub never : Never
 never m pins rxd none ns n = never-after m pins rxd none ns n
+
+pub shown-laws : Shown
+shown-laws = record { of-a-hold = of-a-hold; least = least; never = never; met = met; none-met = none-met }

@@ -58,13 +58,15 @@ impl Look {
     }
 }
 
-fn least(a: u32, b: u32) -> u32
+// Ruled out: the larger; always the first.
+pub fn least(a: u32, b: u32) -> u32
     ensures { λ r. ⌜ r ≡ min a b ⌝ }
 {
     if a < b { a } else { b }
 }
 
-fn within(left: u64, k: u32) -> u32
+// Ruled out: the lower half of a number that does not fit; always k.
+pub fn within(left: u64, k: u32) -> u32
     ensures { λ r. ⌜ r ≡ min left k ⌝ }
 {
     if left < k as u64 { left as u32 } else { k }
@@ -85,7 +87,8 @@ fn serial_steady(s: Sci, rxd: bool) -> u32
 }
 
 // The pins as the queue sees them.
-fn wires(m: Module) -> Pins
+// Ruled out: assigned pins and directions exchanged; every pin at one.
+pub fn wires(m: Module) -> Pins
     ensures { λ r. ⌜ r ≡ pinsOf m ⌝ }
 {
     Pins {
@@ -152,7 +155,8 @@ fn returned(a: Module, b: Module, rxd: bool) -> bool
 }
 
 // Clocks that a count has room for.
-fn room(clock: u64) -> u64
+// Ruled out: one more; those that are gone.
+pub fn room(clock: u64) -> u64
     ensures { λ r. ⌜ r ≡ clockLimit - clock ⌝ }
 {
     0xFFFFFFFFFFFFFFFF - clock

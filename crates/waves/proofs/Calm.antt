@@ -1,7 +1,7 @@
 -- The clocks that the library passes over leave what is drawn, and keep no edge. Assumes nothing.
 use mathlib.Core.Path.{_≡_, refl, sym, ap, _∙_}
 use mathlib.Core.Bool.{Bool, true, false, cond, not, _&&_, _||_, true≢false, false≢true}
-use Prim.Native.Nat.{ℕ, zero, suc, _+_, _-_, _<_, _≤_}
+use Prim.Native.Nat.{ℕ, zero, suc, _+_, _-_, _<_, _≤_, min}
 use native.Mathlib.Omega.{arith}
 use mathlib.Core.List.{List, [], _∷_, _++_}
 use lib.Dec.{eqb, ltb}
@@ -13,14 +13,16 @@ use Rattle.qspi.specs.Queue.{clock, faultNow}
 use Rattle.qspi.specs.Quiet.{quiet, skipped, skippedIf}
 use Rattle.qspi.specs.declared.Qspi.{Qspi}
 use Rattle.qspi.proofs.Quiet.{quiet-clocks}
-use Rattle.qsm.specs.Event.{clockModule, clocks, pinsOf}
+use Rattle.qsm.specs.Event.{clockLimit, clockModule, clocks, passes, pinsOf}
 use Rattle.qsm.specs.declared.state.Module.{Module}
 use Rattle.qsm.proofs.Clocks.{apart}
+use Rattle.qsm.proofs.Limit.{is-room}
 use Rattle.changes.specs.Change.{look, sameLook, differs, number, untilChange}
 use Rattle.changes.specs.declared.Look.{Look}
 use Rattle.changes.specs.declared.Change.{Change}
 use Rattle.changes.specs.declared.Change.the-variants.{After, Nothing}
-use Rattle.changes.proofs.Leastly.{shown-laws}
+use Rattle.changes.specs.Laws.{after}
+use Rattle.changes.proofs.Later.{shown-laws}
 use Rattle.waves.specs.View.{none, keptEdge, over, alike, sameView}
 use Rattle.waves.specs.Probe.{viewOf, ends, tick, before, calm}
 use Rattle.waves.specs.Drawn.{stepTo, change, ticks}
@@ -56,19 +58,23 @@ module _ (m : Module) (rxd : Bool) where
   abbrev on : ℕ → Module
   on i = iterate i (clockModule rxd) m
 
-  looks-by : (c : Change) → untilChange m (m .inputs) rxd ≡ c → (i : ℕ) → 1 ≤ i → i ≤ before (number c) → differs m (m .inputs) rxd i ≡ false
-  looks-by (After n) is i some few =
+  looks-by : (c : Change) → untilChange m (m .inputs) rxd ≡ c → (i : ℕ) → 1 ≤ i → i ≤ before (number c) → passes m i ≡ false →
+      differs m (m .inputs) rxd i ≡ false
+  unfolding after
+  looks-by (After n) is i some few lets =
       let l = shown-laws .least m (m .inputs) rxd n is in
-      let early : before n ≡ n - 1 = rw (ne-eqb n 0 (λ z. omega (arith, l .1))) in
+      let early : before n ≡ min (n - 1) 4294967295 = rw (ne-eqb n 0 (λ z. omega (arith, l .1))) in
       l .3 i some (omega (arith, l .1, early, few))
-  looks-by Nothing is i some few = shown-laws .none-in-a-hold m (m .inputs) rxd is i some few
+  looks-by Nothing is i some few lets =
+      shown-laws .of-a-hold m (m .inputs) rxd i lets ∙ ap not (shown-laws .never m (m .inputs) rxd is [] i)
 
-  looks : (i : ℕ) → i ≤ before (number (untilChange m (m .inputs) rxd)) → look (on i) ≡ look m
+  looks : (i : ℕ) → i ≤ before (number (untilChange m (m .inputs) rxd)) → i ≤ clockLimit - m .clock → look (on i) ≡ look m
   unfolding iterate clocks
-  looks zero few = refl
-  looks (suc i) few =
+  looks zero few fits = refl
+  looks (suc i) few fits =
       look-same (look m) (look (on (suc i)))
-      (not-so (sameLook (look m) (look (on (suc i)))) (looks-by (untilChange m (m .inputs) rxd) refl (suc i) (omega arith) few))
+      (not-so (sameLook (look m) (look (on (suc i))))
+      (looks-by (untilChange m (m .inputs) rxd) refl (suc i) (omega arith) few (is-room m (suc i) (omega arith))))
 
   inputs-stay : (i : ℕ) → on i .inputs ≡ m .inputs
   inputs-stay i = ap (λ (k : Module). k .inputs) (apart i rxd m)
@@ -145,9 +151,10 @@ module _ (p : Probe) where
 
   calm-by : p .kept .on ≡ false → (i : ℕ) → i ≤ calm p →
       (i ≤ before (number (untilChange (p .device) (p .device .inputs) (p .rxd)))) × (i ≤ quiet (p .device .qspi) (pinsOf (p .device)))
+      × (i ≤ clockLimit - p .device .clock)
   calm-by off i few =
-      let both-least = rw off at few in
-      (omega (arith, both-least), omega (arith, both-least))
+      let least = rw off at few in
+      (omega (arith, least), omega (arith, least), omega (arith, least))
 
   kept-off : p .kept .on ≡ false → (i : ℕ) (l : Look) → over (cond (eqb i 0) (p .kept) none) l ≡ l
   kept-off off i l = go (eqb i 0)
@@ -166,7 +173,8 @@ module _ (p : Probe) where
   along-view off i few =
       ap (λ (x : ℕ). drawnAs x (viewOf (along p i) .look)) (inputs-stay (p .device) (p .rxd) i)
       ∙ ap (drawnAs (p .device .inputs))
-      (kept-off off i (look (along p i .device)) ∙ looks (p .device) (p .rxd) i (calm-by off i few .0) ∙ sym (over-off off (look (p .device))))
+      (kept-off off i (look (along p i .device)) ∙ looks (p .device) (p .rxd) i (calm-by off i few .0) (calm-by off i few .2)
+      ∙ sym (over-off off (look (p .device))))
 
   abbrev made : ℕ → Kept → Module → Probe
   made clock kept m = record { clock = clock; known = p .known; given = p .given; rxd = p .rxd; kept = kept; device = m }

@@ -11,7 +11,7 @@ use Rattle.qsm.specs.declared.state.Module.{Module}
 use Rattle.qsm.specs.declared.event.Access.{Access}
 use Rattle.qsm.specs.declared.event.Event.the-variants.{Hold}
 use Rattle.qsm.specs.declared.event.Event.the-variants as event
-use Rattle.changes.specs.Change.{look, longest, number, untilChange}
+use Rattle.changes.specs.Change.{look, number, untilChange}
 use Rattle.waves.specs.View.{none, keptEdge, over}
 use Rattle.waves.specs.declared.view.View.{View}
 use Rattle.waves.specs.declared.probe.Probe.{Probe}
@@ -72,13 +72,15 @@ abbrev pub limited : Probe → ℕ → Bool
 limited p n = ltb clockLimit (p .device .clock + n) || ltb clockLimit (p .clock + n)
 
 -- How the library goes through a hold: so many clocks change nothing that is drawn. (proofs/Calm shows it.)
+-- No hold has more than 4,294,967,295.
 abbrev pub before : ℕ → ℕ
-before n = cond (eqb n 0) longest (n - 1)
+before n = cond (eqb n 0) 4294967295 (min (n - 1) 4294967295)
 
 abbrev pub calm : Probe → ℕ
 calm p =
     cond (p .kept .on) 0
-    (min (before (number (untilChange (p .device) (p .device .inputs) (p .rxd)))) (quiet (p .device .qspi) (pinsOf (p .device))))
+    (min (clockLimit - p .device .clock)
+    (min (before (number (untilChange (p .device) (p .device .inputs) (p .rxd)))) (quiet (p .device .qspi) (pinsOf (p .device)))))
 
 abbrev pub ahead : Probe → ℕ → Probe
 ahead p n =

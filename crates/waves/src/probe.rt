@@ -1,19 +1,22 @@
 // The module with its lines, clock by clock.
 ghost use mathlib.Core.Path.{_≡_};
-ghost use Prim.Native.Nat.{_+_, _≤_, min};
+ghost use Prim.Native.Nat.{_+_, _≤_};
 ghost use lib.Dec.{ltb};
 ghost use Rattle.qspi.specs.Outputs.{enabled};
-ghost use Rattle.qsm.specs.Event.{clockLimit, pinsOf};
+ghost use Rattle.qsm.specs.Event.{clockLimit};
 ghost use Rattle.waves.specs.Probe.{started, viewOf, ends, tick, restarted, taken, accessed, limited, before, calm, ahead};
 use crate::view::Kept;
 use crate::view::View;
+use changes::least;
 use changes::number;
+use changes::room;
 use changes::shown;
 use changes::until_change;
+use changes::wires;
+use changes::within;
 use qsm::event::Access;
 use qsm::event::Event;
 use qsm::state::Module;
-use qspi::Pins;
 
 // The clocks since the start of the trace, which a reset leaves; whether a record has been played, and a hold; RXD as the last hold gave it;
 // what the clock of a last edge keeps; and the module.
@@ -32,16 +35,6 @@ pub struct Accessed {
     pub refusal: u8,
 }
 
-fn wires(m: Module) -> Pins
-    ensures { λ r. ⌜ r ≡ pinsOf m ⌝ }
-{
-    Pins {
-        levels: m.inputs,
-        pqspar: m.pqspar,
-        ddrqs: m.ddrqs,
-    }
-}
-
 // SPE falls from m to the clock after it, by the queue's last edge and not by a mode fault.
 fn ends(m: Module, after: Module) -> bool
     ensures { λ r. ⌜ r ≡ ends m after ⌝ }
@@ -51,17 +44,15 @@ fn ends(m: Module, after: Module) -> bool
     q.enabled() & !q.fault_now(wires(m)) & !r.enabled()
 }
 
-fn least(a: u32, b: u32) -> u32
-    ensures { λ r. ⌜ r ≡ min a b ⌝ }
-{
-    if a < b { a } else { b }
-}
-
 // The clocks before a change; all of them, where none comes.
-fn before(n: u32) -> u32
+fn before(n: u64) -> u32
     ensures { λ r. ⌜ r ≡ before n ⌝ }
 {
-    if n == 0 { 4294967295 } else { n - 1 }
+    if n == 0 {
+        4294967295
+    } else {
+        within(n - 1, 4294967295)
+    }
 }
 
 // Whether so many clocks more would pass 2^64 - 1.
@@ -192,6 +183,6 @@ impl Probe {
             return 0;
         }
         let n = number(until_change(device, device.inputs, self.rxd));
-        least(before(n), q.quiet(wires(device)))
+        within(room(device.clock), least(before(n), q.quiet(wires(device))))
     }
 }
