@@ -1,9 +1,6 @@
 // A turn of the replay: the hold under way up to the next poll, or the next record.
 ghost use mathlib.Core.Path.{_≡_};
 ghost use Prim.Native.Nat.{_+_, _^_, _<_};
-ghost use lib.Dec.{ltb};
-ghost use Rattle.qsm.specs.Event.{clockLimit};
-ghost use Rattle.qsm.specs.Decision.{shaped, fits};
 ghost use Rattle.gatherer.specs.Schedule.{reaches, stops};
 ghost use Rattle.gatherer.specs.Call.{turned, movedTo, heldFor, gathered, pollNow, holdFor, holdOn, restarted, accessed, eventOn, eventOrStop, sizeOf, recordOn, turn};
 use crate::Lines;
@@ -12,28 +9,14 @@ use crate::line::Gathered;
 use crate::line::Outcome;
 use crate::poll::Polled;
 use crate::poll::poll;
+use qsm::decision::fits;
+use qsm::decision::shaped;
 use qsm::event::Access;
 use qsm::event::Event;
 use qsm::lanes::in_map;
 use qsm::lanes::touches;
 use qsm::state::Module;
 use trace::Parsed;
-
-fn shaped(width: u8, offset: u16) -> bool
-    ensures { λ r. ⌜ r ≡ shaped width offset ⌝ }
-{
-    (width == 1) | (((width == 2) | (width == 4)) & (offset % 2 == 0))
-}
-
-fn fits(width: u8, value: u32) -> bool
-    ensures { λ r. ⌜ r ≡ fits width value ⌝ }
-{
-    match width {
-        1 => value < 256,
-        2 => value < 65536,
-        _ => true,
-    }
-}
 
 // An access that passes 1 and 2 and touches SCSR or SCDR.
 fn reaches(a: Access) -> bool
@@ -52,20 +35,13 @@ fn reaches(a: Access) -> bool
     }
 }
 
-// Whether so many clocks more would pass 2^64 - 1.
-fn limited(clock: u64, n: u32) -> bool
-    ensures { λ r. ⌜ r ≡ ltb clockLimit (clock + n) ⌝ }
-{
-    0xFFFFFFFFFFFFFFFF - (n as u64) < clock
-}
-
 // The refusal that an event stops the replay with, before it, or 0.
-fn stops(clock: u64, e: Event) -> u8
-    ensures { λ r. ⌜ r ≡ stops clock e ⌝ }
+fn stops(device: Module, e: Event) -> u8
+    ensures { λ r. ⌜ r ≡ stops (device .clock) e ⌝ }
 {
     match e {
         Event::Reset => 0,
-        Event::Hold(_, _, n) => steps::choose(limited(clock, n), 10, 0),
+        Event::Hold(_, _, n) => steps::choose(device.passes(n), 10, 0),
         Event::Access(a) => steps::choose(reaches(a), 3, 0),
     }
 }
@@ -199,7 +175,7 @@ impl Lines {
         match p {
             Parsed::Record(e, n) => {
                 let device = self.device;
-                self.event_or_stop(period, e, n, stops(device.clock, e))
+                self.event_or_stop(period, e, n, stops(device, e))
             }
             Parsed::Unknown => self.turned(Outcome::Stopped(5)),
             Parsed::Cut => self.turned(Outcome::Stopped(6)),
@@ -214,7 +190,7 @@ impl Lines {
         if self.left != 0 {
             let device = self.device;
             let e = Event::Hold(self.pins, self.rxd, self.left);
-            return self.event_or_stop(period, e, 0, stops(device.clock, e));
+            return self.event_or_stop(period, e, 0, stops(device, e));
         }
         let at = self.at;
         if trace.len() <= at {

@@ -7,6 +7,7 @@ use run::Next;
 use run::Turned;
 use text::line::Line;
 use text::number::Number;
+use trace::Stop;
 
 mod run;
 
@@ -20,9 +21,9 @@ fn say_line(line: Line) {
 fn stop_words(line: Line, why: u8) -> Line {
     match why {
         3 => line.write(b"an access touches SCSR or SCDR"),
-        5 => line.write(b"unknown record kind"),
-        6 => line.write(b"record cut by the end of the trace"),
-        _ => line.write(b"the clocks since reset would pass 2^64 - 1"),
+        5 => line.stop_words(Stop::UnknownKind),
+        6 => line.stop_words(Stop::CutRecord),
+        _ => line.stop_words(Stop::ClockLimit),
     }
 }
 
@@ -118,7 +119,7 @@ on standard error, with its place in bytes:
   3   an access of the trace touches SCSR or SCDR, which polling is to read
   5   unknown record kind
   6   record cut by the end of the trace
-  10  the clocks since reset would pass 2^64 - 1
+  10  hold that would pass 2^64 - 1 clocks since reset
 ",
     );
     if !c.go {

@@ -32,14 +32,16 @@ pub fn refusal_of(d: Decision) -> u8
 }
 
 // Width 1, 2 or 4, and no odd offset with 2 or 4.
-fn shaped(width: u8, offset: u16) -> bool
+// Ruled out: a width of 3; a byte at an odd offset turned away.
+pub fn shaped(width: u8, offset: u16) -> bool
     ensures { λ r. ⌜ r ≡ shaped width offset ⌝ }
 {
     (width == 1) | (((width == 2) | (width == 4)) & (offset % 2 == 0))
 }
 
 // A written value that is not too big for its width.
-fn fits(width: u8, value: u32) -> bool
+// Ruled out: 256 in a byte; a long that is too big.
+pub fn fits(width: u8, value: u32) -> bool
     ensures { λ r. ⌜ r ≡ fits width value ⌝ }
 {
     match width {

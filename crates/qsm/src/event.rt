@@ -81,7 +81,8 @@ impl Module {
     }
 
     // Whether so many clocks more would pass 2^64 - 1.
-    fn passes(self, n: u32) -> bool
+    // Ruled out: reaching 2^64 - 1 taken for passing it; a sum that wraps.
+    pub fn passes(self, n: u32) -> bool
         ensures { λ r. ⌜ r ≡ passes self n ⌝ }
     {
         0xFFFFFFFFFFFFFFFF - (n as u64) < self.clock

@@ -18,7 +18,8 @@ pub enum Fault {
 }
 
 impl Line {
-    fn stop_words(self, stop: Stop) -> Line
+    // Ruled out: the words of another stop; a full stop behind them.
+    pub fn stop_words(self, stop: Stop) -> Line
         ensures { λ r. ⌜ r ≡ puts self (stopWords stop) ⌝ }
     {
         match stop {

@@ -3,7 +3,7 @@ use Rattle.gatherer.proofs.turn.stops.Statement.{statement}
 use Rattle.gatherer.proofs.turn.stops.Tie as tie
 
 returns-2 : tie.Need-returns-2
-returns-2 c = rw (c .choose .ensures, c .before .limited .ensures, c .before .before .before .e .given .1)
+returns-2 c = rw (c .choose .ensures, c .before .passes .ensures, c .before .before .before .e .given .1)
 
 returns-3 : tie.Need-returns-3
 returns-3 c = rw (c .choose2 .ensures, c .before .reaches .ensures, c .before .before .before .e2 .given .1)
