@@ -272,11 +272,11 @@ struct qsm_plan_put {
 };
 
 /*
- * The version of `struct qsm` that the archive has, which is QSM_VERSION of its header. A struct that was saved belongs to one version: keep
- * the number with it, and don't hand it to another's calls. 2 came with the noise figure and moving points, 3 with the clocks
- * since reset, 4 with the account of frames.
+ * The version of `struct qsm` and of `struct qsm_lines` that the archive has, which is QSM_VERSION of its header. A struct that was saved belongs to
+ * one version: keep the number with it, and don't hand it to another's calls. 2 came with the noise figure and moving points, 3 with the clocks
+ * since reset, 4 with the account of frames, 5 with the noise figures of lines.
  */
-#define QSM_VERSION 4
+#define QSM_VERSION 5
 uint32_t qsm_version(void);
 
 /* A module fresh from reset. */
@@ -381,7 +381,18 @@ struct qsm_line {
     uint8_t characters[128];
 };
 
-/* Where a replay stands: a host keeps it from call to call, and need not look inside. */
+/* The noise figures of a line's words, its newline's among them: the total, which stays at the largest number, and the worst. */
+struct qsm_noise_sum {
+    uint64_t total;
+    uint8_t worst;
+};
+
+struct qsm_noise_sums {
+    struct qsm_noise_sum line; /* the line being gathered */
+    struct qsm_noise_sum last; /* the line that ended last: after a call, the one that it tells of */
+};
+
+/* Where a replay stands: a host keeps it from call to call, and need not look inside but for `noise.last`. */
 struct qsm_lines {
     size_t at;            /* place in the trace, from its first byte */
     uint32_t left;        /* clocks left of the hold under way */
@@ -389,6 +400,7 @@ struct qsm_lines {
     uint8_t pins;         /* levels of the hold under way */
     bool rxd;
     struct qsm_line line; /* the line being gathered */
+    struct qsm_noise_sums noise;
     struct qsm device;
 };
 
@@ -557,11 +569,14 @@ QSM_STRUCT(qsm_plan_put, 4, 8); QSM_AT(qsm_plan_put, value, 0, 4); QSM_AT(qsm_pl
 QSM_AT(qsm_plan_put, width, 6, 1);
 QSM_STRUCT(qsm_line, 8, 144); QSM_AT(qsm_line, number, 0, 8); QSM_AT(qsm_line, cause, 8, 1); QSM_AT(qsm_line, count, 9, 1);
 QSM_AT(qsm_line, characters, 10, 128);
-QSM_STRUCT(qsm_lines, 8, 336); QSM_AT(qsm_lines, at, 0, 8); QSM_AT(qsm_lines, left, 8, 4); QSM_AT(qsm_lines, since, 12, 2);
-QSM_AT(qsm_lines, pins, 14, 1); QSM_AT(qsm_lines, rxd, 15, 1); QSM_AT(qsm_lines, line, 16, 144); QSM_AT(qsm_lines, device, 160, 176);
-QSM_STRUCT(qsm_lines_told, 8, 352); QSM_AT(qsm_lines_told, state, 0, 336); QSM_AT(qsm_lines_told, number, 336, 8);
-QSM_AT(qsm_lines_told, kind, 344, 1); QSM_AT(qsm_lines_told, length, 345, 1); QSM_AT(qsm_lines_told, cause, 346, 1);
-QSM_AT(qsm_lines_told, refusal, 347, 1);
+QSM_STRUCT(qsm_noise_sum, 8, 16); QSM_AT(qsm_noise_sum, total, 0, 8); QSM_AT(qsm_noise_sum, worst, 8, 1);
+QSM_STRUCT(qsm_noise_sums, 8, 32); QSM_AT(qsm_noise_sums, line, 0, 16); QSM_AT(qsm_noise_sums, last, 16, 16);
+QSM_STRUCT(qsm_lines, 8, 368); QSM_AT(qsm_lines, at, 0, 8); QSM_AT(qsm_lines, left, 8, 4); QSM_AT(qsm_lines, since, 12, 2);
+QSM_AT(qsm_lines, pins, 14, 1); QSM_AT(qsm_lines, rxd, 15, 1); QSM_AT(qsm_lines, line, 16, 144); QSM_AT(qsm_lines, noise, 160, 32);
+QSM_AT(qsm_lines, device, 192, 176);
+QSM_STRUCT(qsm_lines_told, 8, 384); QSM_AT(qsm_lines_told, state, 0, 368); QSM_AT(qsm_lines_told, number, 368, 8);
+QSM_AT(qsm_lines_told, kind, 376, 1); QSM_AT(qsm_lines_told, length, 377, 1); QSM_AT(qsm_lines_told, cause, 378, 1);
+QSM_AT(qsm_lines_told, refusal, 379, 1);
 QSM_STRUCT(qsm_drivers, 8, 184); QSM_AT(qsm_drivers, qsm, 0, 176); QSM_AT(qsm_drivers, split, 176, 1);
 QSM_AT(qsm_drivers, holder, 177, 1);
 QSM_STRUCT(qsm_indexed, 8, 40); QSM_AT(qsm_indexed, marks, 0, 8); QSM_AT(qsm_indexed, records, 8, 8); QSM_AT(qsm_indexed, place, 16, 8);

@@ -1,5 +1,6 @@
 pub mod Telling
 pub mod Turns
 pub mod Schedules
+pub mod Noises
 pub mod Meaning
 pub mod Whole

@@ -26,15 +26,19 @@ use Rattle.gatherer.specs.Poll.{calls, looked, taking, polled}
 use Rattle.gatherer.specs.Schedule.{Act, plays, polls, acts, stops, sinceAfter, clockAfter, Scheduled, stopped, followed, going, scheduled}
 use Rattle.gatherer.specs.Gather.{newline, caused, damage, typed, ended, put, goesOn, forgotten, shown, reported, gather}
 use Rattle.gatherer.specs.Replay.{notices}
+use Rattle.gatherer.specs.Noise.{silent, figureOf, hears, noises, heard}
 use Rattle.gatherer.specs.Call.{turned, heldFor, pollNow, sinceOf, holdOn, restarted, accessed, eventOn}
 use Rattle.gatherer.specs.Laws.{Replayed, replayed, meant, telling}
 use Rattle.gatherer.specs.declared.line.Line.{Line}
 use Rattle.gatherer.specs.declared.line.Gathered.{Gathered}
 use Rattle.gatherer.specs.declared.line.Outcome.{Outcome}
 use Rattle.gatherer.specs.declared.line.Outcome.the-variants.{Nothing, Handed, Dropped, Stopped, Ended, Refused}
+use Rattle.gatherer.specs.declared.noise.Noise.{Noise}
+use Rattle.gatherer.specs.declared.noise.Noises.{Noises}
 use Rattle.gatherer.specs.declared.Lines.{Lines}
 use Rattle.gatherer.specs.declared.Turned.{Turned}
 use Rattle.gatherer.proofs.Schedules.{cut-quiet, cut-poll}
+use Rattle.gatherer.proofs.Noises.{beside, heard-told}
 
 -- ---- the count of clocks
 
@@ -64,7 +68,7 @@ reset-clock = refl
 
 -- ---- a poll's outcome is none that ends a replay
 
-abbrev Tells : Outcome → Type 0
+abbrev pub Tells : Outcome → Type 0
 Tells Nothing = Unit {0}
 Tells (Handed number n) = Unit {0}
 Tells (Dropped number cause) = Unit {0}
@@ -80,7 +84,7 @@ either : (b : Bool) (x y : Gathered) → Tells (x .outcome) → Tells (y .outcom
 either true x y f g = f
 either false x y f g = g
 
-shown-tells : (l : Line) (read word : ℕ) → Tells (shown l read word .outcome)
+pub shown-tells : (l : Line) (read word : ℕ) → Tells (shown l read word .outcome)
 unfolding shown
 shown-tells l read word =
     either (bit (place RDRF) read) (put l read (word % 128)) (goesOn l)
@@ -88,17 +92,18 @@ shown-tells l read word =
     (one-of (eqb (caused l (damage read) .cause) 0) _ _ tt tt) tt)
     tt
 
-reports : (l : Line) (o : Outcome) (rest : Replayed) → Tells o → telling l o rest ≡ record { reports = reported l o ++ rest .reports; stop = rest .stop }
-reports l Nothing rest h = refl
-reports l (Handed number n) rest h = refl
-reports l (Dropped number cause) rest h = refl
-reports l (Stopped why) rest h = absurd h
-reports l Ended rest h = absurd h
-reports l (Refused why) rest h = absurd h
+reports : (s : Lines) (o : Outcome) (rest : Replayed) → Tells o →
+    telling s o rest ≡ record { reports = reported (s .line) o ++ rest .reports; noises = beside o (s .noise .last) (rest .noises); stop = rest .stop }
+reports s Nothing rest h = refl
+reports s (Handed number n) rest h = refl
+reports s (Dropped number cause) rest h = refl
+reports s (Stopped why) rest h = absurd h
+reports s Ended rest h = absurd h
+reports s (Refused why) rest h = absurd h
 
-pub stop-means : (l : Line) (m : Module) (why : ℕ) → replayed l m (stopped why) ≡ record { reports = []; stop = why }
-unfolding notices gather
-stop-means l m why = refl
+pub stop-means : (l : Line) (n : Noise) (m : Module) (why : ℕ) → replayed l n m (stopped why) ≡ record { reports = []; noises = []; stop = why }
+unfolding notices gather hears noises
+stop-means l n m why = refl
 
 fitting : (limited : Bool) → _≡_ {A = ℕ} (cond limited 10 0) 0 → limited ≡ false
 fitting true h = absurd (omega arith)
@@ -106,7 +111,7 @@ fitting false h = refl
 
 module _ (period : ℕ) (t : List ℕ) (pos : 0 < period) where
   abbrev pub told : Turned → Replayed
-  told r = telling (r .state .line) (r .outcome) (meant period t (r .state))
+  told r = telling (r .state) (r .outcome) (meant period t (r .state))
 
   module _ (s : Lines) (pins : ℕ) (rxd : Bool) (n : ℕ) (room : s .device .clock + n ≤ clockLimit) where
     abbrev since : ℕ
@@ -125,17 +130,17 @@ module _ (period : ℕ) (t : List ℕ) (pos : 0 < period) where
     later = scheduled period ((since + n) % period) (s .device .clock + n) rest
 
     abbrev before : Replayed
-    before = replayed (s .line) (s .device) (followed (acts period since (Hold pins rxd n)) later)
+    before = replayed (s .line) (s .noise .line) (s .device) (followed (acts period since (Hold pins rxd n)) later)
 
     within : since < period
     within = mod-lt (s .since) pos
 
     -- The hold ends before the next poll.
     quiet : n < due → before ≡ told (turned (heldFor s pins rxd n 0 (since + n)) Nothing)
-    unfolding notices
+    unfolding notices hears
     quiet lt =
-        ap (λ (xs : List Act). replayed (s .line) (s .device) (followed xs later)) (cut-quiet period since pins rxd n (omega (arith, within)))
-        ∙ ap (λ (c : ℕ). replayed (s .line) (does (s .device) (Hold pins rxd n) .state) (scheduled period ((since + n) % period) c rest))
+        ap (λ (xs : List Act). replayed (s .line) (s .noise .line) (s .device) (followed xs later)) (cut-quiet period since pins rxd n (omega (arith, within)))
+        ∙ ap (λ (c : ℕ). replayed (s .line) (s .noise .line) (does (s .device) (Hold pins rxd n) .state) (scheduled period ((since + n) % period) c rest))
         (sym (hold-clock (s .device) pins rxd n room))
 
     -- It reaches the poll.
@@ -144,6 +149,9 @@ module _ (period : ℕ) (t : List ℕ) (pos : 0 < period) where
 
     abbrev g : Gathered
     g = shown (s .line) (polled held .status) (polled held .word)
+
+    abbrev h : Noises
+    h = heard (s .noise) (polled held .status) (polled held .word) (figureOf held)
 
     abbrev next : Module
     next = polled held .state
@@ -161,32 +169,34 @@ module _ (period : ℕ) (t : List ℕ) (pos : 0 < period) where
         ap (λ (x : ℕ). scheduled period x (s .device .clock + n) rest) e ∙ ap (λ (x : ℕ). scheduled period k x rest) f
 
     rest-means : due ≤ n → (over : Bool) → eqb left 0 ≡ over →
-        replayed (g .line) next (followed (cond over [] (acts period 0 (Hold pins rxd left))) later)
-        ≡ replayed (g .line) next (following over 0 (s .device .clock + due))
+        replayed (g .line) (h .line) next (followed (cond over [] (acts period 0 (Hold pins rxd left))) later)
+        ≡ replayed (g .line) (h .line) next (following over 0 (s .device .clock + due))
     rest-means reaches true is =
         let none : left ≡ 0 = eqb-true left 0 is in
         let whole : since + n ≡ period = omega (arith, within) in
-        ap (replayed (g .line) next)
+        ap (replayed (g .line) (h .line) next)
         (later-is 0 (s .device .clock + due) (ap (λ (x : ℕ). x % period) whole ∙ mod-self period) (omega (arith, within)))
     rest-means reaches false is =
         let sum : since + n ≡ period + left = omega (arith, within) in
         let none : left ≡ 0 + left = omega arith in
         let fits : s .device .clock + due + left ≤ clockLimit = omega (arith, room, within) in
         rw (le-ltb clockLimit (s .device .clock + due + left) fits)
-        (ap (λ (sch : Scheduled). replayed (g .line) next (followed (acts period 0 (Hold pins rxd left)) sch))
+        (ap (λ (sch : Scheduled). replayed (g .line) (h .line) next (followed (acts period 0 (Hold pins rxd left)) sch))
         (later-is ((0 + left) % period) (s .device .clock + due + left)
         (ap (λ (x : ℕ). x % period) sum ∙ add-mod-left period left ∙ ap (λ (x : ℕ). x % period) none) (omega (arith, within))))
 
     reach : due ≤ n → before ≡ told (pollNow (heldFor s pins rxd due left 0))
-    unfolding notices gather
+    unfolding notices gather hears
     reach reaches =
-        ap (λ (xs : List Act). replayed (s .line) (s .device) (followed xs later)) (cut-poll period since pins rxd n pos within reaches)
-        ∙ ap (λ (r : Replayed). record { reports = reported (g .line) (g .outcome) ++ r .reports; stop = r .stop })
+        ap (λ (xs : List Act). replayed (s .line) (s .noise .line) (s .device) (followed xs later)) (cut-poll period since pins rxd n pos within reaches)
+        ∙ rw (heard-told (s .line) (s .noise) (polled held .status) (polled held .word) (figureOf held))
+        (ap (λ (r : Replayed).
+        record { reports = reported (g .line) (g .outcome) ++ r .reports; noises = beside (g .outcome) (h .last) (r .noises); stop = r .stop })
         (rest-means reaches (eqb left 0) refl
-        ∙ ap (λ (z : ℕ). replayed (g .line) next (following (eqb left 0) z (s .device .clock + due))) (sym (zero-mod period))
-        ∙ ap (λ (c : ℕ). replayed (g .line) next (following (eqb left 0) (0 % period) c)) (sym (next-clock reaches)))
-        ∙ sym (reports (g .line) (g .outcome) (meant period t (pollNow (heldFor s pins rxd due left 0) .state))
-        (shown-tells (s .line) (polled held .status) (polled held .word)))
+        ∙ ap (λ (z : ℕ). replayed (g .line) (h .line) next (following (eqb left 0) z (s .device .clock + due))) (sym (zero-mod period))
+        ∙ ap (λ (c : ℕ). replayed (g .line) (h .line) next (following (eqb left 0) (0 % period) c)) (sym (next-clock reaches)))
+        ∙ sym (reports (pollNow (heldFor s pins rxd due left 0) .state) (g .outcome) (meant period t (pollNow (heldFor s pins rxd due left 0) .state))
+        (shown-tells (s .line) (polled held .status) (polled held .word))))
 
     by : (early : Bool) → ltb n due ≡ early →
         before ≡ told (cond early (turned (heldFor s pins rxd n 0 (since + n)) Nothing) (pollNow (heldFor s pins rxd due left 0)))
@@ -200,7 +210,7 @@ module _ (period : ℕ) (t : List ℕ) (pos : 0 < period) where
   -- An event that doesn't stop the replay, where no hold is under way.
   abbrev pub played : Lines → Event → Replayed
   played s e =
-      replayed (s .line) (s .device)
+      replayed (s .line) (s .noise .line) (s .device)
       (followed (acts period (sinceOf period s) e)
       (scheduled period (sinceAfter period (sinceOf period s) e) (clockAfter (s .device .clock) e) (drop (s .at) t)))
 
@@ -211,14 +221,14 @@ module _ (period : ℕ) (t : List ℕ) (pos : 0 < period) where
       hold-means s pins rxd n (ltb-false clockLimit (s .device .clock + n) (fitting (ltb clockLimit (s .device .clock + n)) goes))
 
   pub event-means : (s : Lines) (e : Event) → eqb (s .left) 0 ≡ true → stops (s .device .clock) e ≡ 0 → played s e ≡ told (eventOn period s e)
-  unfolding eventOn notices gather
+  unfolding eventOn notices gather hears noises
   event-means s Reset idle goes =
       rw idle
-      (ap (λ (k : Module). replayed (forgotten (s .line)) k (scheduled period 0 0 (drop (s .at) t))) (reset-state (s .device))
-      ∙ ap (λ (z : ℕ). replayed (forgotten (s .line)) resetModule (scheduled period z 0 (drop (s .at) t))) (sym (zero-mod period))
-      ∙ ap (λ (c : ℕ). replayed (forgotten (s .line)) resetModule (scheduled period (0 % period) c (drop (s .at) t))) (sym reset-clock))
+      (ap (λ (k : Module). replayed (forgotten (s .line)) silent k (scheduled period 0 0 (drop (s .at) t))) (reset-state (s .device))
+      ∙ ap (λ (z : ℕ). replayed (forgotten (s .line)) silent resetModule (scheduled period z 0 (drop (s .at) t))) (sym (zero-mod period))
+      ∙ ap (λ (c : ℕ). replayed (forgotten (s .line)) silent resetModule (scheduled period (0 % period) c (drop (s .at) t))) (sym reset-clock))
   event-means s (Hold pins rxd n) idle goes = hold-played-means s pins rxd n goes
   event-means s (event.Access a) idle goes =
       rw idle
-      (ap (λ (c : ℕ). replayed (s .line) (does (s .device) (event.Access a) .state) (scheduled period (sinceOf period s) c (drop (s .at) t)))
+      (ap (λ (c : ℕ). replayed (s .line) (s .noise .line) (does (s .device) (event.Access a) .state) (scheduled period (sinceOf period s) c (drop (s .at) t)))
       (sym (access-clock (s .device) a)))

@@ -20,6 +20,7 @@ use Rattle.trace.specs.declared.Parsed.the-variants.{Record, Unknown, Cut}
 use Rattle.gatherer.specs.Schedule.{Scheduled, stops, acts, sinceAfter, clockAfter, stopped, followed, going, next, scheduled}
 use Rattle.gatherer.specs.Gather.{Report, gather}
 use Rattle.gatherer.specs.Replay.{notices, firstLine, lines}
+use Rattle.gatherer.specs.Noise.{silent, hears, noises}
 use Rattle.gatherer.specs.Call.{started, turned, movedTo, heldFor, pollNow, sinceOf, holdOn, eventOn, eventOrStop, recordOn, underWay, turn, nothing, onward, goFor, turnsLeft, goOn}
 use Rattle.gatherer.specs.Laws.{Replayed, replayed, remaining, meant, telling, overAndOver, Bytes, Whole, FromStart}
 use Rattle.gatherer.specs.declared.line.Line.{Line}
@@ -37,37 +38,37 @@ module _ (period : ℕ) (t : List ℕ) (pos : 0 < period) (s : Lines) where
   -- An event, if it doesn't stop the replay, whose record ends at a place.
   or-stop : (e : Event) (a : ℕ) → (stops (s .device .clock) e ≡ 0 → played period t pos (movedTo s a) e ≡ told period t pos (eventOn period (movedTo s a) e)) →
       (goes : Bool) → eqb (stops (s .device .clock) e) 0 ≡ goes →
-      replayed (s .line) (s .device)
+      replayed (s .line) (s .noise .line) (s .device)
       (cond goes
       (followed (acts period (sinceOf period s) e)
       (scheduled period (sinceAfter period (sinceOf period s) e) (clockAfter (s .device .clock) e) (drop a t)))
       (stopped (stops (s .device .clock) e)))
       ≡ told period t pos (cond goes (eventOn period (movedTo s a) e) (turned s (Stopped (stops (s .device .clock) e))))
   or-stop e a means true is = means (eqb-true (stops (s .device .clock) e) 0 is)
-  or-stop e a means false is = stop-means (s .line) (s .device) (stops (s .device .clock) e)
+  or-stop e a means false is = stop-means (s .line) (s .noise .line) (s .device) (stops (s .device .clock) e)
 
   record-means : eqb (s .left) 0 ≡ true → (p : Parsed) →
-      replayed (s .line) (s .device) (next (scheduled period) period (sinceOf period s) (s .device .clock) (drop (s .at) t) p)
+      replayed (s .line) (s .noise .line) (s .device) (next (scheduled period) period (sinceOf period s) (s .device .clock) (drop (s .at) t) p)
       ≡ told period t pos (recordOn period s p)
   record-means idle (Record e n) =
-      ap (λ (d : List ℕ). replayed (s .line) (s .device) (going (λ passed now. scheduled period passed now d) period (sinceOf period s) (s .device .clock) e))
+      ap (λ (d : List ℕ). replayed (s .line) (s .noise .line) (s .device) (going (λ passed now. scheduled period passed now d) period (sinceOf period s) (s .device .clock) e))
       (drop-drop n (s .at) t)
       ∙ or-stop e (s .at + n) (event-means period t pos (movedTo s (s .at + n)) e idle) (eqb (stops (s .device .clock) e) 0) refl
-  record-means idle Unknown = stop-means (s .line) (s .device) 5
-  record-means idle Cut = stop-means (s .line) (s .device) 6
+  record-means idle Unknown = stop-means (s .line) (s .noise .line) (s .device) 5
+  record-means idle Cut = stop-means (s .line) (s .noise .line) (s .device) 6
 
-  way-means : replayed (s .line) (s .device)
+  way-means : replayed (s .line) (s .noise .line) (s .device)
       (going (λ passed now. scheduled period passed now (drop (s .at) t)) period (sinceOf period s) (s .device .clock) (underWay s))
       ≡ told period t pos (eventOrStop period s (underWay s) 0 (stops (s .device .clock) (underWay s)))
   way-means =
       let same : s .at ≡ s .at + 0 = omega arith in
-      ap (λ (a : ℕ). replayed (s .line) (s .device) (going (λ passed now. scheduled period passed now (drop a t)) period (sinceOf period s) (s .device .clock) (underWay s)))
+      ap (λ (a : ℕ). replayed (s .line) (s .noise .line) (s .device) (going (λ passed now. scheduled period passed now (drop a t)) period (sinceOf period s) (s .device .clock) (underWay s)))
       same
       ∙ or-stop (underWay s) (s .at + 0) (hold-played-means period t pos (movedTo s (s .at + 0)) (s .pins) (s .rxd) (s .left))
       (eqb (stops (s .device .clock) (underWay s)) 0) refl
 
   turn-by : (idle over : Bool) → eqb (s .left) 0 ≡ idle → leb (length t) (s .at) ≡ over →
-      replayed (s .line) (s .device)
+      replayed (s .line) (s .noise .line) (s .device)
       (cond idle (scheduled period (sinceOf period s) (s .device .clock) (drop (s .at) t))
       (going (λ passed now. scheduled period passed now (drop (s .at) t)) period (sinceOf period s) (s .device .clock) (underWay s)))
       ≡ told period t pos
@@ -75,11 +76,11 @@ module _ (period : ℕ) (t : List ℕ) (pos : 0 < period) (s : Lines) where
       (eventOrStop period s (underWay s) 0 (stops (s .device .clock) (underWay s))))
   turn-by true true idle over =
       let none : length (drop (s .at) t) ≡ 0 = simp length-drop (omega (arith, leb-true (length t) (s .at) over)) in
-      ap (replayed (s .line) (s .device)) (none-left period (sinceOf period s) (s .device .clock) (drop (s .at) t) none)
-      ∙ stop-means (s .line) (s .device) 0
+      ap (replayed (s .line) (s .noise .line) (s .device)) (none-left period (sinceOf period s) (s .device .clock) (drop (s .at) t) none)
+      ∙ stop-means (s .line) (s .noise .line) (s .device) 0
   turn-by true false idle over =
       let some : 0 < length (drop (s .at) t) = simp length-drop (omega (arith, leb-false (length t) (s .at) over)) in
-      ap (replayed (s .line) (s .device)) (unroll period (sinceOf period s) (s .device .clock) (drop (s .at) t) some)
+      ap (replayed (s .line) (s .noise .line) (s .device)) (unroll period (sinceOf period s) (s .device .clock) (drop (s .at) t) some)
       ∙ record-means idle (parsed (drop (s .at) t))
   turn-by false past idle over = way-means
 
@@ -145,13 +146,13 @@ module _ (period : ℕ) (t : List ℕ) (bytes : Bytes t) where
   turn-left-by s false over few =
       stop-left s (underWay s) (s .at + 0) 0 (stops (s .device .clock) (underWay s)) few few (eqb (stops (s .device .clock) (underWay s)) 0)
 
-  turn-left : (s : Lines) → s .left < 2 ^ 32 → turn period t s .state .left < 2 ^ 32
+  pub turn-left : (s : Lines) → s .left < 2 ^ 32 → turn period t s .state .left < 2 ^ 32
   unfolding turn
   turn-left s few = turn-left-by s (eqb (s .left) 0) (leb (length t) (s .at)) few
 
 -- ---- a call
 
-nothing-is : (o : Outcome) → nothing o ≡ true → o ≡ Nothing
+pub nothing-is : (o : Outcome) → nothing o ≡ true → o ≡ Nothing
 nothing-is Nothing h = refl
 nothing-is (Handed number n) h = absurd (true≢false (sym h))
 nothing-is (Dropped number cause) h = absurd (true≢false (sym h))
@@ -160,10 +161,10 @@ nothing-is Ended h = absurd (true≢false (sym h))
 nothing-is (Refused why) h = absurd (true≢false (sym h))
 
 module _ (period : ℕ) (t : List ℕ) (pos : 0 < period) (bytes : Bytes t) where
-  record Went (s : Lines) (r : Turned) : Type 0 where
-    means : meant period t s ≡ told period t pos r
-    tells : nothing (r .outcome) ≡ false
-    few : r .state .left < 2 ^ 32
+  pub record Went (s : Lines) (r : Turned) : Type 0 where
+    pub means : meant period t s ≡ told period t pos r
+    pub tells : nothing (r .outcome) ≡ false
+    pub few : r .state .left < 2 ^ 32
 
   go-by : (k : ℕ) (s : Lines) → ((s' : Lines) → turnsLeft t s' < k → s' .left < 2 ^ 32 → Went s' (goFor k period t s')) →
       turnsLeft t s < suc k → s .left < 2 ^ 32 → (quiet : Bool) → nothing (turn period t s .outcome) ≡ quiet →
@@ -176,7 +177,7 @@ module _ (period : ℕ) (t : List ℕ) (pos : 0 < period) (bytes : Bytes t) wher
       let w = on next (omega (arith, less, enough)) few' in
       record {
         means =
-            turn-means period t pos s ∙ ap (λ (o : Outcome). telling (next .line) o (meant period t next)) none ∙ w .means;
+            turn-means period t pos s ∙ ap (λ (o : Outcome). telling next o (meant period t next)) none ∙ w .means;
         tells = w .tells;
         few = w .few;
       }
@@ -188,20 +189,20 @@ module _ (period : ℕ) (t : List ℕ) (pos : 0 < period) (bytes : Bytes t) wher
   go-means zero s enough few = absurd (omega arith)
   go-means (suc k) s enough few = go-by k s (go-means k) enough few (nothing (turn period t s .outcome)) refl
 
-  call-means : (s : Lines) → s .left < 2 ^ 32 → Went s (goOn period t s)
+  pub call-means : (s : Lines) → s .left < 2 ^ 32 → Went s (goOn period t s)
   unfolding goOn
   call-means s few = go-means (suc (turnsLeft t s)) s (omega arith) few
 
   -- ---- calls over and over
 
-  by-outcome : (l : Line) (o : Outcome) (k : ℕ) (x y : Replayed) → nothing o ≡ false → length (telling l o y .reports) < suc k →
-      (length (y .reports) < k → x ≡ y) → telling l o x ≡ telling l o y
-  by-outcome l Nothing k x y tells short same = absurd (true≢false tells)
-  by-outcome l (Handed number n) k x y tells short same = ap (telling l (Handed number n)) (same (omega (arith, short)))
-  by-outcome l (Dropped number cause) k x y tells short same = ap (telling l (Dropped number cause)) (same (omega (arith, short)))
-  by-outcome l (Stopped why) k x y tells short same = refl
-  by-outcome l Ended k x y tells short same = refl
-  by-outcome l (Refused why) k x y tells short same = refl
+  by-outcome : (s : Lines) (o : Outcome) (k : ℕ) (x y : Replayed) → nothing o ≡ false → length (telling s o y .reports) < suc k →
+      (length (y .reports) < k → x ≡ y) → telling s o x ≡ telling s o y
+  by-outcome s Nothing k x y tells short same = absurd (true≢false tells)
+  by-outcome s (Handed number n) k x y tells short same = ap (telling s (Handed number n)) (same (omega (arith, short)))
+  by-outcome s (Dropped number cause) k x y tells short same = ap (telling s (Dropped number cause)) (same (omega (arith, short)))
+  by-outcome s (Stopped why) k x y tells short same = refl
+  by-outcome s Ended k x y tells short same = refl
+  by-outcome s (Refused why) k x y tells short same = refl
 
   calls-mean : (k : ℕ) (s : Lines) → s .left < 2 ^ 32 → length (meant period t s .reports) < k → overAndOver k period t s ≡ meant period t s
   unfolding overAndOver
@@ -210,7 +211,7 @@ module _ (period : ℕ) (t : List ℕ) (pos : 0 < period) (bytes : Bytes t) wher
       let r : Turned = goOn period t s in
       let w = call-means s few in
       let short' : length (told period t pos r .reports) < suc k = subst (λ (x : Replayed). length (x .reports) < suc k) (w .means) short in
-      by-outcome (r .state .line) (r .outcome) k (overAndOver k period t (r .state)) (meant period t (r .state)) (w .tells) short'
+      by-outcome (r .state) (r .outcome) k (overAndOver k period t (r .state)) (meant period t (r .state)) (w .tells) short'
       (λ shorter. calls-mean k (r .state) (w .few) shorter)
       ∙ sym (w .means)
 
@@ -218,6 +219,9 @@ pub whole-calls : Whole
 whole-calls period t s k pos bytes few short = calls-mean period t pos bytes k s few short
 
 pub from-start : FromStart
-from-start period t =
-    ap (λ (z : ℕ). gather firstLine (notices (scheduled period z (resetModule .clock) t .acts) resetModule)) (zero-mod period)
-    ∙ ap (λ (c : ℕ). gather firstLine (notices (scheduled period 0 c t .acts) resetModule)) reset-clock
+from-start period t = (
+  ap (λ (z : ℕ). gather firstLine (notices (scheduled period z (resetModule .clock) t .acts) resetModule)) (zero-mod period)
+      ∙ ap (λ (c : ℕ). gather firstLine (notices (scheduled period 0 c t .acts) resetModule)) reset-clock,
+  ap (λ (z : ℕ). noises silent (hears (scheduled period z (resetModule .clock) t .acts) resetModule)) (zero-mod period)
+      ∙ ap (λ (c : ℕ). noises silent (hears (scheduled period 0 c t .acts) resetModule)) reset-clock,
+)

@@ -20,18 +20,23 @@ use Rattle.gatherer.specs.Poll.{polled}
 use Rattle.gatherer.specs.Schedule.{stops}
 use Rattle.gatherer.specs.Gather.{most, forgotten, shown}
 use Rattle.gatherer.specs.Replay.{firstLine}
+use Rattle.gatherer.specs.Noise.{silent, figureOf, heard, unheard}
 use Rattle.gatherer.specs.declared.line.Line.{Line}
 use Rattle.gatherer.specs.declared.line.Gathered.{Gathered}
 use Rattle.gatherer.specs.declared.line.Outcome.{Outcome}
 use Rattle.gatherer.specs.declared.line.Outcome.the-variants.{Nothing, Handed, Dropped, Stopped, Ended, Refused}
+use Rattle.gatherer.specs.declared.noise.Noises.{Noises}
 use Rattle.gatherer.specs.declared.poll.Polled.{Polled}
 use Rattle.gatherer.specs.declared.Lines.{Lines}
 use Rattle.gatherer.specs.declared.Turned.{Turned}
 
+abbrev none : Noises
+none = record { line = silent; last = silent }
+
 -- At the start of a trace, on a module fresh from reset.
 abbrev pub started : Lines
 started =
-    record { device = resetModule; at = 0; left = 0; pins = 0; rxd = false; since = 0; line = firstLine }
+    record { device = resetModule; at = 0; left = 0; pins = 0; rxd = false; since = 0; line = firstLine; noise = none }
 
 abbrev pub turned : Lines → Outcome → Turned
 turned s o = record { state = s; outcome = o }
@@ -39,7 +44,7 @@ turned s o = record { state = s; outcome = o }
 -- Past a record.
 abbrev pub movedTo : Lines → ℕ → Lines
 movedTo s at =
-    record { device = s .device; at = at; left = s .left; pins = s .pins; rxd = s .rxd; since = s .since; line = s .line }
+    record { device = s .device; at = at; left = s .left; pins = s .pins; rxd = s .rxd; since = s .since; line = s .line; noise = s .noise }
 
 -- So many clocks of a hold, of which so many are left then, and so many clocks have passed since the last poll.
 abbrev pub heldFor : Lines → ℕ → Bool → ℕ → ℕ → ℕ → Lines
@@ -52,11 +57,12 @@ heldFor s pins rxd n left since =
       rxd = rxd;
       since = since;
       line = s .line;
+      noise = s .noise;
     }
 
--- A poll, and what it makes of the line.
-abbrev pub gathered : Lines → Polled → Gathered → Turned
-gathered s p g =
+-- A poll, and what it makes of the line and of its noise figures.
+abbrev pub gathered : Lines → Polled → Gathered → Noises → Turned
+gathered s p g noise =
     turned
     (record {
       device = p .state;
@@ -66,11 +72,14 @@ gathered s p g =
       rxd = s .rxd;
       since = s .since;
       line = g .line;
+      noise = noise;
     })
     (g .outcome)
 
 abbrev pub pollNow : Lines → Turned
-pollNow s = gathered s (polled (s .device)) (shown (s .line) (polled (s .device) .status) (polled (s .device) .word))
+pollNow s =
+    gathered s (polled (s .device)) (shown (s .line) (polled (s .device) .status) (polled (s .device) .word))
+    (heard (s .noise) (polled (s .device) .status) (polled (s .device) .word) (figureOf (s .device)))
 
 -- A hold of n clocks, or as much of it as comes before the next poll, and then the poll.
 abbrev pub holdFor : ℕ → ℕ → Lines → ℕ → Bool → ℕ → Turned
@@ -95,6 +104,7 @@ restarted s =
       rxd = s .rxd;
       since = 0;
       line = forgotten (s .line);
+      noise = unheard (s .noise);
     }
 
 abbrev pub accessed : Lines → Access → Lines
@@ -107,6 +117,7 @@ accessed s a =
       rxd = s .rxd;
       since = s .since;
       line = s .line;
+      noise = s .noise;
     }
 
 unfoldable pub eventOn : ℕ → Lines → Event → Turned

@@ -8,15 +8,18 @@ ghost use Rattle.gatherer.specs.Call.{started, goOn, called, handedIn, C
 
 pub mod claims;
 pub mod line;
+pub mod noise;
 pub mod poll;
 mod turn;
 
 use line::Line;
 use line::Outcome;
+use noise::Noise;
+use noise::Noises;
 use qsm::state::Module;
 
 // Where a replay stands: the place in the trace, the clocks left of the hold under way, the clocks since the last poll, the hold's levels, the line
-// being gathered, and the module.
+// being gathered, the noise figures, and the module.
 #[repr(C)]
 pub struct Lines {
     pub at: usize,
@@ -25,6 +28,7 @@ pub struct Lines {
     pub pins: u8,
     pub rxd: bool,
     pub line: Line,
+    pub noise: Noises,
     pub device: Module,
 }
 
@@ -44,6 +48,10 @@ pub fn start() -> Lines
         count: 0,
         characters: [0u8; 128],
     };
+    let noise = Noises {
+        line: Noise::silent(),
+        last: Noise::silent(),
+    };
     Lines {
         at: 0,
         left: 0,
@@ -51,6 +59,7 @@ pub fn start() -> Lines
         pins: 0,
         rxd: false,
         line,
+        noise,
         device: Module::reset(),
     }
 }

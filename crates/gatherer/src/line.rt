@@ -34,7 +34,7 @@ pub struct Gathered {
 // The most characters before a line's end.
 pub const MOST: u8 = 128;
 
-const NEWLINE: u8 = 0x0A;
+pub(crate) const NEWLINE: u8 = 0x0A;
 
 // The causes, in their order on one word.
 pub const FRAMING: u8 = 1;

@@ -7,6 +7,7 @@ use crate::Lines;
 use crate::Turned;
 use crate::line::Gathered;
 use crate::line::Outcome;
+use crate::noise::Noises;
 use crate::poll::Polled;
 use crate::poll::poll;
 use qsm::decision::fits;
@@ -78,14 +79,15 @@ impl Lines {
         self
     }
 
-    fn gathered(mut self, p: Polled, g: Gathered) -> Turned
-        ensures { λ r. ⌜ r ≡ gathered self p g ⌝ }
+    fn gathered(mut self, p: Polled, g: Gathered, noise: Noises) -> Turned
+        ensures { λ r. ⌜ r ≡ gathered self p g noise ⌝ }
     {
         let device = p.state;
         let line = g.line;
         let outcome = g.outcome;
         self.device = device;
         self.line = line;
+        self.noise = noise;
         Turned {
             state: self,
             outcome,
@@ -97,9 +99,11 @@ impl Lines {
     {
         let device = self.device;
         let line = self.line;
+        let noise = self.noise;
         let p = poll(device);
         let g = line.shown(p.status, p.word);
-        self.gathered(p, g)
+        let n = noise.heard(p.status, p.word, device.noise());
+        self.gathered(p, g, n)
     }
 
     fn hold_for(self, period: u16, since: u16, pins: u8, rxd: bool, n: u32) -> Turned
@@ -127,11 +131,14 @@ impl Lines {
         ensures { λ r. ⌜ r ≡ restarted self ⌝ }
     {
         let line = self.line;
+        let noise = self.noise;
         let fresh = Module::reset();
         let next = line.forgotten();
+        let none = noise.unheard();
         self.device = fresh;
         self.since = 0;
         self.line = next;
+        self.noise = none;
         self
     }
 

@@ -80,7 +80,7 @@ fn period() -> Number {
     }
 }
 
-fn play(k: u64) {
+fn play(k: u64, noise: bool) {
     let mut name = io::buffer();
     let i = files::input::open(b"lines", 1, &mut name);
     let fd = i.fd;
@@ -88,17 +88,17 @@ fn play(k: u64) {
     if fd < 0 {
         return;
     }
-    report(run::replay(fd, (k % 65537) as u32), &name[..n]);
+    report(run::replay(fd, (k % 65537) as u32, noise), &name[..n]);
     libc::close(fd);
 }
 
 fn main() {
     let c = files::command::read(
         b"lines",
-        b"",
+        b"--noise",
         1,
         2,
-        b"usage: lines PERIOD [TRACE]\n",
+        b"usage: lines [--noise] PERIOD [TRACE]\n",
         b"\
 Replays a trace on a module fresh from reset, with polling put in: after every PERIOD
 clocks (1 to 65535) since the start or a reset, status is read, and data if RDRF or OR
@@ -113,6 +113,11 @@ error has its number, from 0 over all lines that ended, and the first cause:
   FE, PF, NF   a word came with a framing error, a parity error or noise
   length       more than 128 characters before the newline
   OR           an overrun: a character was lost
+
+With --noise standard error has for each line that ended, dropped or not, its number and
+the noise figures of its words, the newline among them: the total and the worst. A line
+that is handed over has none above 0.
+  line 2: noise total 5, worst 3
 
 A line that is not finished at the end, at a stop or at a reset is forgotten. A stop is said
 on standard error, with its place in bytes:
@@ -129,5 +134,5 @@ on standard error, with its place in bytes:
     let Number::Is(k) = p else {
         return;
     };
-    play(k);
+    play(k, c.option);
 }

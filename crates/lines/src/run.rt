@@ -1,6 +1,8 @@
 // A trace replayed piece by piece: each piece is read behind the bytes that wait, and call after call goes on through it.
 ghost use mathlib.Core.Path.{_≡_};
 ghost use lib.ListN.{length};
+ghost use Rattle.text.specs.Line.{Shows};
+ghost use Rattle.text.specs.Noise.{lineNoise};
 use files::message::say_first;
 use files::output::write_first;
 use files::pieces::carry;
@@ -8,6 +10,8 @@ use files::pieces::counted;
 use files::pieces::fill;
 use gatherer::Lines;
 use gatherer::line::Outcome;
+use gatherer::noise::Noise;
+use libc::STDERR_FILENO;
 use libc::STDOUT_FILENO;
 use text::line::Line;
 
@@ -84,6 +88,21 @@ fn say_drop(number: u64, cause: u8) {
     say_first(b"lines", &bytes, n);
 }
 
+// The line of the noise figures of a line, by its number.
+// Ruled out: the figures of the line under way; total and worst exchanged.
+fn noise_line(number: u64, noise: Noise) -> Line
+    ensures { λ r. ⌜ Shows r (lineNoise number (noise .total) (noise .worst)) ⌝ }
+{
+    text::noise::line_noise(number, noise.total, noise.worst)
+}
+
+fn say_noise(number: u64, noise: Noise) {
+    let line = noise_line(number, noise);
+    let n = line.length;
+    let bytes = line.bytes;
+    write_first(STDERR_FILENO, &bytes, n);
+}
+
 // What is left of the buffer is carried to its start, and more is read behind it.
 fn refill(fd: i32, run: Run, buf: &mut [u8]) -> Turned {
     let mut state = run.state;
@@ -124,6 +143,17 @@ fn dropped(run: Run, number: u64, cause: u8) -> Turned {
     run.next(Next::More)
 }
 
+// The figures of a line that was told, if they are asked for.
+fn noted(t: Turned, noise: bool, number: u64) -> Turned {
+    if noise {
+        let run = t.run;
+        let state = run.state;
+        let heard = state.noise;
+        say_noise(number, heard.last);
+    }
+    t
+}
+
 fn stopped(fd: i32, run: Run, buf: &mut [u8], why: u8) -> Turned {
     if why == 6 {
         return at_end(fd, run, buf, Next::Stopped(why));
@@ -144,8 +174,27 @@ fn call(s: Lines, buf: &[u8], total: usize, period: u32, line: &mut [u8]) -> gat
     gatherer::go_on(s, &buf[..total], period, line)
 }
 
+// What a call told.
+fn tell(
+    fd: i32,
+    run: Run,
+    told: Outcome,
+    noise: bool,
+    buf: &mut [u8],
+    line: &mut [u8],
+) -> Turned {
+    match told {
+        Outcome::Nothing => run.next(Next::More),
+        Outcome::Handed(number, n) => noted(written(run, line, n), noise, number),
+        Outcome::Dropped(number, cause) => noted(dropped(run, number, cause), noise, number),
+        Outcome::Stopped(why) => stopped(fd, run, buf, why),
+        Outcome::Ended => at_end(fd, run, buf, Next::Done),
+        Outcome::Refused(why) => run.next(Next::Refused(why)),
+    }
+}
+
 // One call, and what it tells.
-fn turn(fd: i32, run: Run, period: u32, buf: &mut [u8], line: &mut [u8]) -> Turned {
+fn turn(fd: i32, run: Run, period: u32, noise: bool, buf: &mut [u8], line: &mut [u8]) -> Turned {
     let total = run.total;
     let before = run.state;
     let went = call(before, buf, total, period, line);
@@ -157,14 +206,7 @@ fn turn(fd: i32, run: Run, period: u32, buf: &mut [u8], line: &mut [u8]) -> Turn
         total,
         ended: run.ended,
     };
-    match told {
-        Outcome::Nothing => now.next(Next::More),
-        Outcome::Handed(_, n) => written(now, line, n),
-        Outcome::Dropped(number, cause) => dropped(now, number, cause),
-        Outcome::Stopped(why) => stopped(fd, now, buf, why),
-        Outcome::Ended => at_end(fd, now, buf, Next::Done),
-        Outcome::Refused(why) => now.next(Next::Refused(why)),
-    }
+    tell(fd, now, told, noise, buf, line)
 }
 
 // Room for a line and its newline.
@@ -174,13 +216,13 @@ fn room() -> [u8; 256]
     [0u8; 256]
 }
 
-pub fn replay(fd: i32, period: u32) -> Turned {
+pub fn replay(fd: i32, period: u32, noise: bool) -> Turned {
     let mut buf = io::large_buffer();
     let mut line = room();
     let mut run = Run::start();
     let mut turns = u64::MAX;
     while turns > 0 {
-        let t = turn(fd, run, period, &mut buf, &mut line);
+        let t = turn(fd, run, period, noise, &mut buf, &mut line);
         let next = t.next;
         let Next::More = next else {
             return t;

@@ -43,7 +43,7 @@ pub struct Played {
 
 // The version of the struct of a module, which a saved one belongs to: one more with each change of its fields. `QSM_VERSION` in the header is
 // the version that a host was compiled with.
-const VERSION: u32 = 4;
+const VERSION: u32 = 5;
 
 // Ruled out: the number of an earlier struct; one that changes between calls.
 #[no_mangle]

@@ -12,7 +12,7 @@ use Rattle.text.specs.Log.{foreignKind}
 use Rattle.text.specs.Answer.{unnamed}
 use Rattle.text.specs.Difference.{fieldName, kindText, refusalText, pinsText, levelText, fieldText, differenceLine}
 use Rattle.text.specs.Verdict.{equalLine, more, differLine, why, refusedLine, expected, otherLine}
-use Rattle.text.specs.Noise.{noiseLine, tallyLine}
+use Rattle.text.specs.Noise.{noiseLine, tallyLine, lineNoise}
 use Rattle.text.specs.Account.{accountLine}
 use Rattle.text.specs.declared.difference.Field.{Field}
 use Rattle.text.specs.declared.difference.Field.the-variants.{Kind, Refusal, Value, Levels, Mask, Level, Vector, Clock}
@@ -94,6 +94,10 @@ noise-fits n figure = simp length-append (omega (arith, decimal-length 20 n, dec
 pub tally-fits : (words noisy worst : ℕ) → length (tallyLine words noisy worst) ≤ room
 tally-fits words noisy worst =
     simp length-append (omega (arith, decimal-length 20 words, decimal-length 20 noisy, decimal-length 3 worst))
+
+pub line-noise-fits : (number total worst : ℕ) → length (lineNoise number total worst) ≤ room
+line-noise-fits number total worst =
+    simp length-append (omega (arith, decimal-length 20 number, decimal-length 20 total, decimal-length 3 worst))
 
 -- ---- the account
 

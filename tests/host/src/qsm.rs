@@ -228,13 +228,23 @@ c_struct!(Put {
 pub const ANSWER: usize = 18;
 
 /// The version that these structs are of, `QSM_VERSION` in the header.
-pub const VERSION: u32 = 4;
+pub const VERSION: u32 = 5;
 
 c_struct!(Line {
     number: u64,
     cause: u8,
     count: u8,
     characters: [u8; 128],
+});
+
+c_struct!(NoiseSum {
+    total: u64,
+    worst: u8,
+});
+
+c_struct!(NoiseSums {
+    line: NoiseSum,
+    last: NoiseSum,
 });
 
 c_struct!(Lines {
@@ -244,6 +254,7 @@ c_struct!(Lines {
     pins: u8,
     rxd: bool,
     line: Line,
+    noise: NoiseSums,
     device: Module,
 });
 

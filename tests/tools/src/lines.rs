@@ -21,6 +21,10 @@ pub fn lines(period: u32, room: usize) -> Printed {
             return Err("the buffer is changed past the line".into());
         }
         state = told.state;
+        let noise = state.noise.last;
+        if noise.total < noise.worst as u64 || told.kind == 1 && noise.total > 0 || told.kind == 2 && told.cause == 3 && noise.total == 0 {
+            return Err(format!("noise total {}, worst {} of line {}", noise.total, noise.worst, told.number));
+        }
         match told.kind {
             0 => return Ok((printed + "end\n").into_bytes()),
             1 => {

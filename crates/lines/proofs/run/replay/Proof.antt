@@ -6,10 +6,10 @@ use Rattle.lines.proofs.run.replay.Statement.{statement}
 use Rattle.lines.proofs.run.replay.Tie as tie
 
 abbrev Inv-loop : tie.InvT-loop
-Inv-loop fd period buf₀ line₀ run₀ turns₀ buf line run turns = (length buf ≡ 65536) × (length line ≡ 256)
+Inv-loop fd period noise buf₀ line₀ run₀ turns₀ buf line run turns = (length buf ≡ 65536) × (length line ≡ 256)
 
 abbrev μ-loop : tie.MeasureT-loop
-μ-loop fd period buf₀ line₀ run₀ turns₀ buf line run turns = turns
+μ-loop fd period noise buf₀ line₀ run₀ turns₀ buf line run turns = turns
 
 large-buffer-requires : tie.Need-large-buffer-requires Inv-loop μ-loop
 large-buffer-requires c κs = tt
