@@ -4,3 +4,6 @@ pub mod Schedules
 pub mod Noises
 pub mod Meaning
 pub mod Whole
+pub mod Shifting
+pub mod Extending
+pub mod Pieces

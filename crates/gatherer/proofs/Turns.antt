@@ -59,7 +59,7 @@ hold-left period s pins rxd n pos some =
     part-left s pins rxd n (period - sinceOf period s) (sinceOf period s) some (omega (arith, mod-lt (s .since) pos))
     (ltb n (period - sinceOf period s))
 
-event-at : (period : ℕ) (s : Lines) (e : Event) → eventOn period s e .state .at ≡ s .at
+pub event-at : (period : ℕ) (s : Lines) (e : Event) → eventOn period s e .state .at ≡ s .at
 unfolding eventOn
 event-at period s Reset = refl
 event-at period s (Hold pins rxd n) = hold-at period s pins rxd n

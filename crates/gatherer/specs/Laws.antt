@@ -103,9 +103,3 @@ abbrev pub NoisyLine : Type 0
 NoisyLine =
     noises silent (delivered 65 2 ∷ delivered 66 3 ∷ delivered newline 1 ∷ delivered newline 0 ∷ []) ≡
     record { total = 6; worst = 3 } ∷ record { total = 0; worst = 0 } ∷ []
-
-pub record Shown : Type 0 where
-  pub whole : Whole
-  pub from-start : FromStart
-  pub line-by-line : LineByLine
-  pub noisy-line : NoisyLine

@@ -5,3 +5,5 @@ pub mod Replay
 pub mod Noise
 pub mod Call
 pub mod Laws
+pub mod Pieces
+pub mod Shown

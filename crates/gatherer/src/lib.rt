@@ -9,6 +9,7 @@ ghost use Rattle.gatherer.specs.Call.{started, goOn, called, handedIn, C
 pub mod claims;
 pub mod line;
 pub mod noise;
+pub mod piece;
 pub mod poll;
 mod turn;
 

@@ -1,4 +1,5 @@
-// A trace replayed piece by piece: each piece is read behind the bytes that wait, and call after call goes on through it.
+// A trace replayed piece by piece: each piece is read behind the bytes that wait, and call after call goes on through it. That pieces give what the
+// whole gives is the law `InPieces` of the gatherer.
 ghost use mathlib.Core.Path.{_≡_};
 ghost use lib.ListN.{length};
 ghost use Rattle.text.specs.Line.{Shows};
@@ -11,6 +12,7 @@ use files::pieces::fill;
 use gatherer::Lines;
 use gatherer::line::Outcome;
 use gatherer::noise::Noise;
+use gatherer::piece::go_on_piece;
 use libc::STDERR_FILENO;
 use libc::STDOUT_FILENO;
 use text::line::Line;
@@ -105,13 +107,11 @@ fn say_noise(number: u64, noise: Noise) {
 
 // What is left of the buffer is carried to its start, and more is read behind it.
 fn refill(fd: i32, run: Run, buf: &mut [u8]) -> Turned {
-    let mut state = run.state;
-    let at = state.at;
-    let have = carry(buf, at, run.total);
+    let state = run.state;
+    let have = carry(buf, state.at, run.total);
     let f = fill(fd, buf, have, run.ended);
-    state.at = 0;
     let next = Run {
-        state,
+        state: state.rebased(),
         place: run.place,
         total: f.total,
         ended: f.ended,
@@ -120,14 +120,6 @@ fn refill(fd: i32, run: Run, buf: &mut [u8]) -> Turned {
         return next.next(Next::NotRead);
     }
     next.next(Next::More)
-}
-
-// At the end of the buffer, or before a record that its end cuts.
-fn at_end(fd: i32, run: Run, buf: &mut [u8], last: Next) -> Turned {
-    if run.ended {
-        return run.next(last);
-    }
-    refill(fd, run, buf)
 }
 
 fn written(run: Run, line: &mut [u8], n: u8) -> Turned {
@@ -154,41 +146,34 @@ fn noted(t: Turned, noise: bool, number: u64) -> Turned {
     t
 }
 
-fn stopped(fd: i32, run: Run, buf: &mut [u8], why: u8) -> Turned {
-    if why == 6 {
-        return at_end(fd, run, buf, Next::Stopped(why));
-    }
-    run.next(Next::Stopped(why))
-}
-
 // How far a call moved its place.
 fn passed(before: usize, after: usize) -> usize {
     if before < after { after - before } else { 0 }
 }
 
-// A call on the first bytes of the buffer.
-fn call(s: Lines, buf: &[u8], total: usize, period: u32, line: &mut [u8]) -> gatherer::Turned {
+// A call on the first bytes of the buffer, which are the last of the trace or not.
+fn call(
+    s: Lines,
+    buf: &[u8],
+    total: usize,
+    last: bool,
+    period: u32,
+    line: &mut [u8],
+) -> gatherer::Turned {
     if buf.len() < total {
-        return gatherer::go_on(s, buf, period, line);
+        return go_on_piece(s, buf, last, period, line);
     }
-    gatherer::go_on(s, &buf[..total], period, line)
+    go_on_piece(s, &buf[..total], last, period, line)
 }
 
-// What a call told.
-fn tell(
-    fd: i32,
-    run: Run,
-    told: Outcome,
-    noise: bool,
-    buf: &mut [u8],
-    line: &mut [u8],
-) -> Turned {
+// What a call told. Where there is nothing to tell, the next piece is read.
+fn tell(fd: i32, run: Run, told: Outcome, noise: bool, buf: &mut [u8], line: &mut [u8]) -> Turned {
     match told {
-        Outcome::Nothing => run.next(Next::More),
+        Outcome::Nothing => refill(fd, run, buf),
         Outcome::Handed(number, n) => noted(written(run, line, n), noise, number),
         Outcome::Dropped(number, cause) => noted(dropped(run, number, cause), noise, number),
-        Outcome::Stopped(why) => stopped(fd, run, buf, why),
-        Outcome::Ended => at_end(fd, run, buf, Next::Done),
+        Outcome::Stopped(why) => run.next(Next::Stopped(why)),
+        Outcome::Ended => run.next(Next::Done),
         Outcome::Refused(why) => run.next(Next::Refused(why)),
     }
 }
@@ -197,7 +182,7 @@ fn tell(
 fn turn(fd: i32, run: Run, period: u32, noise: bool, buf: &mut [u8], line: &mut [u8]) -> Turned {
     let total = run.total;
     let before = run.state;
-    let went = call(before, buf, total, period, line);
+    let went = call(before, buf, total, run.ended, period, line);
     let state = went.state;
     let told = went.outcome;
     let now = Run {

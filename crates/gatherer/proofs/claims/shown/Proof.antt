@@ -1,5 +1,6 @@
 use mathlib.Core.Path.{refl}
 use Rattle.gatherer.proofs.Noises.{line-by-line, noisy-line}
+use Rattle.gatherer.proofs.Pieces.{in-pieces, cuts}
 use Rattle.gatherer.proofs.Whole.{whole-calls, from-start}
 use Rattle.gatherer.proofs.claims.shown.Statement.{statement}
 use Rattle.gatherer.proofs.claims.shown.Tie as tie
@@ -12,6 +13,8 @@ returns c = (
     from-start = from-start;
     line-by-line = line-by-line;
     noisy-line = noisy-line;
+    in-pieces = in-pieces;
+    cuts = cuts;
   },
 )
 

@@ -4,8 +4,8 @@ use lib.Seq.{length-take-le}
 use Rattle.lines.proofs.run.call.Statement.{statement}
 use Rattle.lines.proofs.run.call.Tie as tie
 
-slice-aggregate-go-on : tie.Need-slice-aggregate-go-on
-slice-aggregate-go-on c = sym (length-take-le _ _ (search needs))
+slice-aggregate-go-on-piece : tie.Need-slice-aggregate-go-on-piece
+slice-aggregate-go-on-piece c = sym (length-take-le _ _ (search needs))
 
 pub call-spec : {M : Type 1} → statement M
 call-spec =
@@ -14,7 +14,7 @@ call-spec =
     (λ c κs. search needs)
     (λ c. search needs)
     (λ c. search needs)
-    slice-aggregate-go-on
+    slice-aggregate-go-on-piece
     (λ c κs. search needs)
     (λ c. search needs)
     (λ c. search needs))
