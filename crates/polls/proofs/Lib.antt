@@ -6,3 +6,4 @@ pub mod Paced
 pub mod Joined
 pub mod Ruled
 pub mod Losing
+pub mod Replaying

@@ -37,14 +37,14 @@ use Rattle.polls.specs.Spacing.{apart, samplesOf, cut, shortest}
 use Rattle.polls.specs.Rule.{lostIn, waiting, longest, polledAfter, Within, late, started, Loses}
 
 -- Holds and reads break nothing.
-abbrev harmless : List Event → Bool
+abbrev pub harmless : List Event → Bool
 harmless [] = true
 harmless (Reset ∷ es) = false
 harmless (Hold pins rxd n ∷ es) = harmless es
 harmless (event.Access (Read supervisor width offset) ∷ es) = harmless es
 harmless (event.Access (Write supervisor width offset value) ∷ es) = false
 
-harmless-unbroken : (es : List Event) (m : Module) → harmless es ≡ true → Unbroken es m
+pub harmless-unbroken : (es : List Event) (m : Module) → harmless es ≡ true → Unbroken es m
 harmless-unbroken [] m e = tt
 harmless-unbroken (Reset ∷ es) m e = absurd (false≢true e)
 harmless-unbroken (Hold pins rxd n ∷ es) m e = (refl, harmless-unbroken es (after (Hold pins rxd n) m) e)

@@ -101,7 +101,7 @@ event-ticks (event.Access (Write supervisor width offset value)) m k =
           (store-ticks (eqb width 4) offset (lined width value) (upperLane width offset) (lowerLane width offset)),
     )
 
-clocks-one : (e : Event) (es : List Event) → clocksIn (e ∷ es) ≡ clocksIn (e ∷ []) + clocksIn es
+pub clocks-one : (e : Event) (es : List Event) → clocksIn (e ∷ es) ≡ clocksIn (e ∷ []) + clocksIn es
 clocks-one Reset es = omega arith
 clocks-one (Hold pins rxd n) es = omega arith
 clocks-one (event.Access a) es = omega arith
@@ -119,10 +119,10 @@ all-ticks (e ∷ es) m =
 
 -- ---- a stretch
 
-reached : (past : List Event) → Reachable (run past resetModule .sci)
+pub reached : (past : List Event) → Reachable (run past resetModule .sci)
 reached past = subst Reachable (sym (from-reset past)) (reachable-history (all past resetModule))
 
-from : (moves : Bool) (es : List Event) (m : Module) → Reachable (m .sci) → waiting m ≡ false → Unbroken es m →
+pub from : (moves : Bool) (es : List Event) (m : Module) → Reachable (m .sci) → waiting m ≡ false → Unbroken es m →
     clocksIn es ≤ longest moves m → MovingIn moves es m → lostIn (log es m) ≡ 0
 from moves es m k h u l v =
     ap lostIn (all-log es m)
@@ -180,32 +180,32 @@ steps-lose false s = go (delivers (read true false) (receiving s))
     go (some v) = refl
     go none = refl
 
-poll-loses : (m : Module) → lostIn (log (pollEvents m) m) ≡ 0
+pub poll-loses : (m : Module) → lostIn (log (pollEvents m) m) ≡ 0
 poll-loses m =
     ap lostIn
     (all-log (pollEvents m) m
     ∙ ap (λ (es : List Step). marks.log es (m .sci)) (ap (λ (es : List Event). all es m) (poll-is m) ∙ poll-steps m (waiting m)))
     ∙ steps-lose (waiting m) (m .sci)
 
-reached-on : (es : List Event) (m : Module) → Reachable (m .sci) → Reachable (run es m .sci)
+pub reached-on : (es : List Event) (m : Module) → Reachable (m .sci) → Reachable (run es m .sci)
 reached-on es m k = subst Reachable (sym (all-run es m)) (reachable-run (all es m) (m .sci) k)
 
 -- SCCR0 and SCCR1 stay.
-stays : (es : List Event) (m : Module) → Unbroken es m → (run es m .sci .sccr0 ≡ m .sci .sccr0) × (run es m .sci .sccr1 ≡ m .sci .sccr1)
+pub stays : (es : List Event) (m : Module) → Unbroken es m → (run es m .sci .sccr0 ≡ m .sci .sccr0) × (run es m .sci .sccr1 ≡ m .sci .sccr1)
 stays es m u = (
   ap (λ (s : Sci). s .sccr0) (all-run es m) ∙ run-sccr0 (all es m) (m .sci) (all-unbroken es m u),
   ap (λ (s : Sci). s .sccr1) (all-run es m) ∙ run-sccr1 (all es m) (m .sci) (all-unbroken es m u),
 )
 
 module _ (moves : Bool) where
-  moving-first : (es fs : List Event) (m : Module) → MovingIn moves (es ++ fs) m → MovingIn moves es m
+  pub moving-first : (es fs : List Event) (m : Module) → MovingIn moves (es ++ fs) m → MovingIn moves es m
   moving-first es fs m v = λ e.
       let r : Receiver = m .sci .receiver in
       let n : ℕ = bitsOf (M (m .sci .sccr1)) in
       unmoved-first n (r .last1) (r .last2) (r .last3) (r .framer) (samplesOf (ops es m)) (samplesOf (ops fs (run es m)))
       (subst (Unmoved n (r .last1) (r .last2) (r .last3) (r .framer)) (ap samplesOf (ops-joined es fs m) ∙ samples-joined (ops es m) (ops fs (run es m))) (v e))
 
-  moving-last : (es fs : List Event) (m : Module) → Unbroken es m → MovingIn moves (es ++ fs) m → MovingIn moves fs (run es m)
+  pub moving-last : (es fs : List Event) (m : Module) → Unbroken es m → MovingIn moves (es ++ fs) m → MovingIn moves fs (run es m)
   moving-last es fs m u v =
       let n : ℕ = bitsOf (M (m .sci .sccr1)) in
       let os : List Op = ops fs (run es m) in

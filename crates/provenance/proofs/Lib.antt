@@ -12,3 +12,4 @@ pub mod Wire
 pub mod Lines
 pub mod Handing
 pub mod Recorded
+pub mod Quickly

@@ -26,7 +26,7 @@ use Rattle.provenance.specs.Happened.{Damage, Happening, markOf, marksOf
 use Rattle.provenance.specs.Happened as happening
 use Rattle.provenance.specs.Claims.{AsMarked}
 
-marks-joined : (h k : List Happening) → marksOf (h ++ k) ≡ marksOf h ++ marksOf k
+pub marks-joined : (h k : List Happening) → marksOf (h ++ k) ≡ marksOf h ++ marksOf k
 marks-joined [] k = refl
 marks-joined (e ∷ h) k = ap (λ (ms : List Mark). markOf e ∷ ms) (marks-joined h k)
 

@@ -2,3 +2,4 @@ pub mod Happened
 pub mod Segment
 pub mod Claims
 pub mod Witness
+pub mod Quick
