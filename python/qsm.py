@@ -23,11 +23,11 @@ from typing import Any, NamedTuple, Optional
 import qsm_c
 from qsm_names import Answer, Bytes, Cause, Counts, Field, Offset, Pin, Refusal, Sccr1, Scsr, bits, octets, truth
 from qsm_plan import Plan, Put, SetPoint, plan, plan_accepts, plan_writes
-from qsm_tools import Compared, Dropped, Edition, Editions, Found, Gathered, Index, Indexed, Judgement, Line, Mark, compare, judge, lines
+from qsm_tools import Compared, Dropped, Edition, Editions, Found, Gathered, Index, Indexed, Judgement, Line, Mark, Noise, compare, judge, lines
 
 __all__ = [
     "ANSWER_LENGTH", "VERSION", "Answer", "Cause", "Compared", "Counts", "Drivers", "Dropped", "Edition", "Editions", "Field", "Found", "Gathered",
-    "Index", "Indexed", "Judgement", "Line", "Mark", "Module", "Offset", "Pin", "Plan", "Played", "Put", "Refusal", "Sccr1", "Scsr", "SetPoint",
+    "Index", "Indexed", "Judgement", "Line", "Mark", "Module", "Noise", "Offset", "Pin", "Plan", "Played", "Put", "Refusal", "Sccr1", "Scsr", "SetPoint",
     "compare", "judge", "lines", "plan", "plan_accepts", "plan_writes", "play",
 ]
 

@@ -8,7 +8,7 @@ from ctypes import POINTER, Structure, c_bool, c_char_p, c_size_t, c_uint8, c_ui
 from pathlib import Path
 from typing import Any
 
-VERSION = 4
+VERSION = 5
 """QSM_VERSION of the header that these structs are those of."""
 
 FORMS: dict[str, type[Structure]] = {}
@@ -90,10 +90,12 @@ QueuePlan = _struct(
 Planned = _struct("qsm_planned", *_fields(QueuePlan, "plan"), *_fields(c_uint8, "refusal"))
 PlanPut = _struct("qsm_plan_put", *_fields(c_uint32, "value"), *_fields(c_uint16, "offset"), *_fields(c_uint8, "width"))
 Line = _struct("qsm_line", *_fields(c_uint64, "number"), *_fields(c_uint8, "cause count"), *_fields(c_uint8 * 128, "characters"))
+NoiseSum = _struct("qsm_noise_sum", *_fields(c_uint64, "total"), *_fields(c_uint8, "worst"))
+NoiseSums = _struct("qsm_noise_sums", *_fields(NoiseSum, "line last"))
 Lines = _struct(
     "qsm_lines",
     *_fields(c_size_t, "at"), *_fields(c_uint32, "left"), *_fields(c_uint16, "since"), *_fields(c_uint8, "pins"), *_fields(c_bool, "rxd"),
-    *_fields(Line, "line"), *_fields(Qsm, "device"),
+    *_fields(Line, "line"), *_fields(NoiseSums, "noise"), *_fields(Qsm, "device"),
 )
 LinesTold = _struct(
     "qsm_lines_told", *_fields(Lines, "state"), *_fields(c_uint64, "number"), *_fields(c_uint8, "kind length cause refusal")

@@ -52,18 +52,27 @@ def judge(trace: Bytes, log: Bytes) -> Judgement:
     return Judgement(c.number, Field(c.field), Refusal(c.stop))
 
 
+class Noise(NamedTuple):
+    """The noise figures of a line's words, its newline's among them."""
+
+    total: int
+    worst: int
+
+
 class Line(NamedTuple):
-    """A line handed over: its number, from 0 over all lines that ended, and its characters."""
+    """A line handed over: its number, from 0 over all lines that ended, its characters and its noise."""
 
     number: int
     text: bytes
+    noise: Noise
 
 
 class Dropped(NamedTuple):
-    """A line dropped, and the first cause."""
+    """A line dropped, the first cause and its noise."""
 
     number: int
     cause: Cause
+    noise: Noise
 
 
 class Gathered(NamedTuple):
@@ -87,10 +96,11 @@ def lines(trace: Bytes, period: int) -> Gathered:
     while True:
         c = qsm_c.library.qsm_lines_next(state, given, len(given), clocks, room, _LINES_ROOM)
         state = c.state
+        noise = Noise(state.noise.last.total, state.noise.last.worst)
         if c.kind == _LINES_LINE:
-            gathered.append(Line(c.number, room.raw[: c.length]))
+            gathered.append(Line(c.number, room.raw[: c.length], noise))
         elif c.kind == _LINES_DROP:
-            gathered.append(Dropped(c.number, Cause(c.cause)))
+            gathered.append(Dropped(c.number, Cause(c.cause), noise))
         else:
             return Gathered(gathered, Refusal(c.refusal))
 

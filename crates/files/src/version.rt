@@ -4,5 +4,5 @@ use libc::STDOUT_FILENO;
 // A program's name and its version, as a line on standard output.
 pub fn print_version(program: &[u8]) {
     io::write_all(STDOUT_FILENO, program);
-    io::write_all(STDOUT_FILENO, b" 4.0\n");
+    io::write_all(STDOUT_FILENO, b" 5.0\n");
 }
