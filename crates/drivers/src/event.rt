@@ -33,7 +33,7 @@ pub struct Stepped {
 fn answer(m: Module, refusal: u8) -> Answer
     ensures { λ r. ⌜ r ≡ answerOf m refusal 0 ⌝ }
 {
-    let r = qsm::event::read(m, true, 0, 0);
+    let r = qsm::event::step(m, qsm::event::Event::Access(Access::Read(true, 0, 0)));
     let mut a = r.answer;
     a.refusal = refusal;
     a

@@ -1,6 +1,8 @@
 // A poll: status is read, and data if RDRF or OR showed, as supervisor words.
 ghost use mathlib.Core.Path.{_≡_};
 ghost use Rattle.gatherer.specs.Poll.{calls, taking, polled};
+use qsm::event::Access;
+use qsm::event::Event;
 use qsm::state::Module;
 
 // The module after a poll, the status that it showed, and the word that it read, 0 where it read none.
@@ -21,7 +23,7 @@ fn taking(m: Module, status: u32, reading: bool) -> Polled
     ensures { λ r. ⌜ r ≡ taking m status reading ⌝ }
 {
     if reading {
-        let s = qsm::event::read(m, true, 2, 0x0E);
+        let s = qsm::event::step(m, Event::Access(Access::Read(true, 2, 0x0E)));
         let answer = s.answer;
         let state = s.state;
         Polled {
@@ -42,7 +44,7 @@ fn taking(m: Module, status: u32, reading: bool) -> Polled
 pub fn poll(m: Module) -> Polled
     ensures { λ r. ⌜ r ≡ polled m ⌝ }
 {
-    let s = qsm::event::read(m, true, 2, 0x0C);
+    let s = qsm::event::step(m, Event::Access(Access::Read(true, 2, 0x0C)));
     let answer = s.answer;
     let state = s.state;
     let status = answer.value;

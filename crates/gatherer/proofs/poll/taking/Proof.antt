@@ -1,11 +1,11 @@
 use borrow.Author.Needs.{needs}
-use Rattle.qsm.specs.Event.{does, answerOf}
+use Rattle.qsm.specs.Event.{does, answerOf, step}
 use Rattle.gatherer.proofs.poll.taking.Statement.{statement}
 use Rattle.gatherer.proofs.poll.taking.Tie as tie
 
 returns : tie.Need-returns
-unfolding does answerOf
-returns c = rw (c .before .before .read .ensures, c .before .before .before .if1 .taken)
+unfolding does answerOf step
+returns c = rw (c .before .before .step .ensures, c .before .before .before .if1 .taken)
 
 returns-2 : tie.Need-returns-2
 returns-2 c = rw (c .if1 .left)
