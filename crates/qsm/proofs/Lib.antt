@@ -4,6 +4,7 @@ pub mod Limit
 pub mod Splitting
 pub mod Reading
 pub mod Straight
+pub mod Brief
 pub mod Booleans
 pub mod StatusFlags
 pub mod Asking

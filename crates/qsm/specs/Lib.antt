@@ -10,6 +10,7 @@ pub mod Lanes
 pub mod Access
 pub mod Decision
 pub mod Event
+pub mod Holding
 pub mod Holds
 pub mod Count
 pub mod StatusFlags

@@ -11,6 +11,8 @@ use crate::access::Store;
 use crate::decision::Decision;
 use crate::decision::permits;
 use crate::decision::refusal_of;
+use crate::holding::queue_held;
+use crate::holding::serial_held;
 use crate::lanes::halves;
 use crate::lanes::lane;
 use crate::lanes::lined;
@@ -305,8 +307,40 @@ pub fn reset() -> Stepped
 pub fn hold(m: Module, pins: u8, rxd: bool, clocks: u32) -> Stepped
     ensures { λ r. ⌜ r ≡ answered (holds m pins rxd clocks) ⌝ }
 {
-    let d = m.holds(pins, rxd, clocks);
-    d.with(d.answer())
+    let mut state = m;
+    let mut refusal = 10;
+    if !m.passes(clocks) {
+        let levels = qspi::Pins {
+            levels: pins,
+            pqspar: m.pqspar,
+            ddrqs: m.ddrqs,
+        };
+        refusal = 0;
+        state.inputs = pins;
+        state.clock += clocks as u64;
+        let queue = queue_held(m.qspi, clocks, levels);
+        if queue.short {
+            state.qspi.entry.left = queue.left;
+            state.qspi.entry.edges = queue.edges;
+            state.qspi.entry.mosi = queue.mosi;
+            state.qspi.entry.collected = queue.collected;
+            state.qspi.entry.selecting = queue.selecting;
+        } else {
+            let qspi = m.qspi;
+            let after = qspi.clocks(clocks, levels);
+            state.qspi = after;
+        }
+        let serial = serial_held(m.sci, clocks, rxd);
+        if serial.short {
+            state.sci.prescaler = serial.count;
+        } else {
+            let sci = m.sci;
+            let after = sci.clocks(clocks, rxd);
+            state.sci = after;
+        }
+    }
+    let answer = answer_of(outputs_of(state), asked_of(state), state.clock, refusal, 0);
+    Stepped { state, answer }
 }
 
 // Ruled out: every read answered 0; a blocked user's read with a side effect.

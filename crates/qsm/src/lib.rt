@@ -3,6 +3,7 @@
 pub mod access;
 pub mod decision;
 pub mod event;
+mod holding;
 mod holds;
 pub mod lanes;
 mod laws;

@@ -49,7 +49,8 @@ impl Entry {
     }
 
     // An edge before edge 2n falls in the next n clocks.
-    fn edge_within(self, spcr0: u16, n: u32) -> bool
+    // Ruled out: edge 2n; an edge one clock later.
+    pub fn edge_within(self, spcr0: u16, n: u32) -> bool
         ensures { λ r. ⌜ r ≡ edgeWithin spcr0 n self ⌝ }
     {
         let early = ((self.edges % 32 + 1) as u16) < bits_of(spcr0, self.command) * 2;
@@ -96,7 +97,8 @@ impl Qspi {
     }
 
     // k quiet clocks.
-    fn skipped(self, k: u32) -> Qspi
+    // Ruled out: a count that goes down with SPE clear; PCS back at PORTQS after no clock of the delay.
+    pub fn skipped(self, k: u32) -> Qspi
         ensures { λ r. ⌜ r ≡ skipped k self ⌝ }
     {
         self.skipped_if(
@@ -106,7 +108,8 @@ impl Qspi {
     }
 
     // An entry runs, with no mode fault due.
-    fn plays(self, pins: Pins) -> bool
+    // Ruled out: the delay; an entry that a mode fault ends.
+    pub fn plays(self, pins: Pins) -> bool
         ensures { λ r. ⌜ r ≡ plays self pins ⌝ }
     {
         spe(self.registers.spcr1) & !self.fault_now(pins) & self.entry.playing

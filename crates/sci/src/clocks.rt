@@ -70,7 +70,8 @@ impl Sci {
     }
 
     // k such clocks.
-    fn skipped(mut self, k: u32) -> Sci
+    // Ruled out: a count with the prescaler at rest; one that passes 65,535.
+    pub fn skipped(mut self, k: u32) -> Sci
         ensures { λ r. ⌜ r ≡ skipped k self ⌝ }
     {
         if self.active() {
