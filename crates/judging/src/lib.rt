@@ -5,7 +5,6 @@ ghost use Prim.Native.Nat.{_≤_, min};
 ghost use lib.Dec.{ltb};
 ghost use lib.ListN.{length};
 ghost use Rattle.trace.specs.Trace.{answerLength, answerBytes};
-ghost use Rattle.trace.specs.Play.{refusalOf};
 ghost use Rattle.judging.specs.Verdict.{alike, verdict, numbered, before};
 ghost use Rattle.judging.specs.Judge.{judged, walked};
 
@@ -19,6 +18,7 @@ use qsm::state::Module;
 use text::difference::Field;
 use trace::ANSWER_LENGTH;
 use trace::Parsed;
+use trace::refusals::refusal_of;
 
 // A log that is right, or the number of its first wrong answer and the first field of it that is.
 pub enum Verdict {
@@ -115,17 +115,6 @@ fn told(v: Verdict, n: usize, a: Answer, y: &[u8]) -> Verdict
     }
 }
 
-// The refusal of what is no whole record.
-fn refusal(p: Parsed) -> u8
-    ensures { λ r. ⌜ r ≡ refusalOf p ⌝ }
-{
-    match p {
-        Parsed::Record(_, _) => 0,
-        Parsed::Unknown => 5,
-        Parsed::Cut => 6,
-    }
-}
-
 fn least(x: usize, y: usize) -> usize
     ensures { λ r. ⌜ r ≡ min x y ⌝ }
 {
@@ -152,7 +141,7 @@ pub fn walk<'a>(m: Module, trace: &'a [u8], log: &'a [u8], last: bool) -> Walked
     while at < trace.len() {
         let p = trace::parse(&trace[at..]);
         let Parsed::Record(e, size) = p else {
-            let stop = refusal(p);
+            let stop = refusal_of(p);
             return Walked {
                 state,
                 records: n,

@@ -3,11 +3,11 @@ ghost use mathlib.Core.Path.{_≡_};
 ghost use mathlib.Core.List.{[], _∷_};
 ghost use Prim.Native.Nat.{_+_, _<_, _≤_, _-_};
 ghost use lib.ListN.{length};
-ghost use Rattle.trace.specs.Play.{refusalOf};
 ghost use Rattle.marks.specs.Records.{Item, resetOf, refusalAt};
 ghost use Rattle.marks.specs.Walk.{start, past, walked, largest, possible, Sound, wentOn};
 use qsm::event::Event;
 use trace::Parsed;
+use trace::refusals::refusal_of;
 
 // Where a record starts: its number, from 0, its place in bytes, and how many resets came before it.
 pub struct Position {
@@ -94,16 +94,6 @@ pub fn go_on(from: Position, piece: &[u8], until: u64) -> Walked
         return walk(from, piece, until);
     }
     Walked { at: from, read: 0 }
-}
-
-fn refusal_of(p: Parsed) -> u8
-    ensures { λ r. ⌜ r ≡ refusalOf p ⌝ }
-{
-    match p {
-        Parsed::Record(_, _) => 0,
-        Parsed::Unknown => 5,
-        Parsed::Cut => 6,
-    }
 }
 
 // What stops a walk at the start of a rest: 5 or 6, or 0 where nothing is left.

@@ -5,13 +5,13 @@ ghost use Prim.Native.Nat.{_≤_};
 ghost use lib.ListN.{length, drop};
 ghost use Rattle.trace.specs.Trace.{long, supervisorOf, widthOf, holdRecord, longHoldRecord, readRecord, writeRecord, parsed, answerLength, answerBytes};
 ghost use Rattle.trace.specs.Play.{stopNumber, refusalOf, play, Plays};
-
-mod claims;
-
 use qsm::event::Access;
 use qsm::event::Answer;
 use qsm::event::Event;
 use qsm::state::Module;
+
+mod claims;
+pub mod refusals;
 
 // What stands at the start of a rest of a trace: an event and the position past its record, or why there is none.
 pub enum Parsed {

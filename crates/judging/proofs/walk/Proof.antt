@@ -30,15 +30,15 @@ parse-requires c κs = tt
 enum-known-p : tie.Need-enum-known-p Inv-loop μ-loop
 enum-known-p c = search needs
 
-refusal-requires : tie.Need-refusal-requires Inv-loop μ-loop
-refusal-requires c κs = tt
+refusal-of-requires : tie.Need-refusal-of-requires Inv-loop μ-loop
+refusal-of-requires c κs = tt
 
 returns : tie.Need-returns Inv-loop μ-loop
 returns c =
     let turn = c .before .before in
     let loop = turn .before .before .before .loop in
     let test = turn .before .before .loop-test .taken in
-    at-refusal _ _ _ _ _ _ _ _ _ (loop .inv) test (turn .parse .result) (c .refusal .result) (turn .parse .ensures) (c .before .match .keys2) (c .refusal .ensures)
+    at-refusal _ _ _ _ _ _ _ _ _ (loop .inv) test (turn .parse .result) (c .refusal-of .result) (turn .parse .ensures) (c .before .match .keys2) (c .refusal-of .ensures)
 
 sub-least : tie.Need-sub-least Inv-loop μ-loop
 sub-least c = omega (arith, c .before .before .before .before .before .before .loop .inv .past)
@@ -135,7 +135,7 @@ walk-spec =
     part-parse-end
     parse-requires
     enum-known-p
-    refusal-requires
+    refusal-of-requires
     returns
     sub-least
     least-requires
