@@ -10,7 +10,7 @@ use Rattle.sci.specs.Status.{has}
 use Rattle.qspi.specs.Fields.{bitsOf, preDelay, delayAfter}
 use Rattle.qspi.specs.Entry.{mosiAfter, collectedAfter}
 use Rattle.qspi.specs.Registers.{reset, writeSpcr1}
-use Rattle.qspi.specs.Queue.{edge, playClock, startClock, clock, queueClock}
+use Rattle.qspi.specs.Queue.{completed, edge, playClock, startClock, clock, queueClock}
 use Rattle.qsm.specs.State.{resetModule}
 use Rattle.qsm.specs.Map.{decode}
 use Rattle.qsm.specs.Lanes.{inMap, isRestricted}
@@ -25,9 +25,9 @@ use Rattle.qsm.specs.declared.event.Done.{Done}
 use Rattle.qsm.specs.declared.event.Event.the-variants.{Reset, Hold}
 use Rattle.qsm.specs.declared.event.Event.the-variants as event
 use Rattle.qsm.proofs.Limit.{hold-played, is-room}
-use Rattle.waves.specs.Probe.{tick, taken, limited}
+use Rattle.waves.specs.Probe.{ends, tick, taken, limited}
 use Rattle.waves.specs.Drawn.{stepTo, still, ticks}
-use Rattle.waves.specs.Laws.{Own, Forward, running, Met}
+use Rattle.waves.specs.Laws.{Own, Forward, running, ending, Met}
 use Rattle.waves.specs.declared.probe.Probe.{Probe}
 use Rattle.waves.proofs.Meaning.{rooms, fitting}
 
@@ -87,3 +87,7 @@ met =
     ∙ ap (λ (b : Bool). cond b [] (stepTo (iterate 1 tick running) (iterate 2 tick running) 0 ∷ []) ++ ticks 2 (iterate 2 tick running)) second
     ∙ ap (λ (b : Bool). cond b [] (stepTo (iterate 2 tick running) (iterate 3 tick running) 0 ∷ []) ++ ticks 1 (iterate 3 tick running)) third
     ∙ ap (λ (b : Bool). cond b [] (stepTo (iterate 3 tick running) (iterate 4 tick running) 0 ∷ []) ++ ticks 0 (iterate 4 tick running)) fourth
+
+pub ends-so : ends (ending .device) (tick ending .device) ≡ true
+unfolding does writes refused answerOf request mask owned ownLevels levels clocks clockModule iterate store stored storedBy decideStored admitted inMap isRestricted decode peek put unmodelled guarded peekQueue putQueue queueUnmodelled queueGuarded resetModule reset writeSpcr1 clocked has clock queueClock startClock playClock edge completed bitsOf preDelay delayAfter mosiAfter collectedAfter
+ends-so = refl

@@ -1,6 +1,8 @@
 pub mod Calm
 pub mod Records
 pub mod Meaning
+pub mod Edge
+pub mod Pieces
 pub mod Device
 pub mod Whole
 pub mod Nine

@@ -1,6 +1,6 @@
 -- Turn after turn, what a state means is what the turns tell. Assumes nothing.
 use mathlib.Core.Path.{_≡_, refl, sym, ap, subst, _∙_}
-use mathlib.Core.Bool.{Bool, true, false, cond, true≢false}
+use mathlib.Core.Bool.{Bool, true, false, cond}
 use mathlib.Core.List.{List, [], _∷_}
 use Prim.Native.Nat.{ℕ, zero, suc, _+_, _-_, _*_, _^_, _<_, _≤_}
 use native.Mathlib.Omega.{arith}
@@ -18,11 +18,12 @@ use Rattle.trace.proofs.Playing.{record-within}
 use Rattle.waves.specs.Probe.{tick, limited, calm, ahead}
 use Rattle.waves.specs.Drawn.{drawn, after, stops, Drawn, stopped, followed, next, drawnFrom}
 use Rattle.waves.specs.Turn.{turned, moved, eventOn, sizeOf, recordOn, holdFor, holdOn, turn}
-use Rattle.waves.specs.Laws.{meant, telling, overAndOver, turnsLeft, Bytes, Whole, FromStart}
+use Rattle.waves.specs.Laws.{meant, telling, overAndOver, turnsLeft, goes, Bytes, Whole, FromStart}
 use Rattle.waves.specs.declared.Outcome.{Outcome}
 use Rattle.waves.specs.declared.Outcome.the-variants as outcome
 use Rattle.waves.specs.declared.Waves.{Waves}
 use Rattle.waves.proofs.Records.{unroll, none-left}
+use Rattle.waves.proofs.Pieces.{never}
 use Rattle.waves.proofs.Meaning.{telled, hold-means, event-means}
 
 -- ---- a turn
@@ -71,18 +72,9 @@ module _ (t : List ℕ) (s : Waves) where
 
 -- ---- each turn that goes on takes a clock of the hold under way or a byte of the trace
 
-abbrev goes : Outcome → Bool
-goes outcome.Nothing = true
-goes (outcome.Drawn d) = true
-goes (outcome.Stopped why) = false
-goes outcome.Ended = false
-
 data Moves (t : List ℕ) (s r : Waves) : Type 0 where
   clock : r .at ≡ s .at → r .left < s .left → Moves t s r
   byte : s .at < r .at → s .at < length t → Moves t s r
-
-never : (o : Outcome) → goes o ≡ false → goes o ≡ true → ⊥
-never o is not = true≢false (sym not ∙ is)
 
 event-at : (s : Waves) (at : ℕ) (e : Event) → eventOn s at e .state .at ≡ at
 unfolding eventOn

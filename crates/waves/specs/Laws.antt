@@ -1,19 +1,24 @@
 -- Turns, over and over, give the changes of the whole trace, each at its own clock.
 use mathlib.Core.Path.{_≡_}
-use mathlib.Core.Bool.{true, cond}
-use mathlib.Core.List.{List, [], _∷_}
-use Prim.Native.Nat.{ℕ, zero, suc, _+_, _-_, _*_, _^_, _<_}
+use mathlib.Core.Bool.{Bool, true, false, cond}
+use mathlib.Core.List.{List, [], _∷_, _++_}
+use Prim.Native.Nat.{ℕ, zero, suc, _+_, _-_, _*_, _/_, _%_, _^_, _<_, _≤_}
 use lib.Dec.{eqb}
 use lib.ListN.{length, drop}
 use Rattle.steps.specs.Iterate.{iterate}
+use Rattle.qspi.specs.Entry.{withPlace}
+use Rattle.qspi.specs.Parts.{withEntry}
+use Rattle.qsm.specs.State.{withQspi}
 use Rattle.qsm.specs.Event.{does, held}
 use Rattle.qsm.specs.declared.event.Event.{Event}
 use Rattle.qsm.specs.declared.event.Event.the-variants.{Reset, Hold}
 use Rattle.qsm.specs.declared.event.Event.the-variants as event
 use Rattle.trace.specs.Trace.{byteAt}
+use Rattle.changes.specs.Change.{look}
 use Rattle.changes.specs.Laws.{started}
+use Rattle.changes.specs.declared.Look.{Look}
 use Rattle.waves.specs.View.{none}
-use Rattle.waves.specs.Probe.{tick, limited}
+use Rattle.waves.specs.Probe.{viewOf, ends, tick, limited}
 use Rattle.waves.specs.Drawn.{stepTo, ticks, after, stops, Drawn, stopped, followed, drawnFrom, changes}
 use Rattle.waves.specs.Turn.{begun, turn}
 use Rattle.waves.specs.declared.Outcome.{Outcome}
@@ -56,6 +61,24 @@ Whole = (t : List ℕ) (s : Waves) (k : ℕ) → Bytes t → s .left < 2 ^ 32 �
 abbrev pub FromStart : Type 0
 FromStart = (t : List ℕ) → meant t begun ≡ changes t
 
+-- A trace in pieces: a turn that goes on is the same with more bytes behind, and bytes before its place can be left out.
+abbrev pub goes : Outcome → Bool
+goes told.Nothing = true
+goes (told.Drawn s) = true
+goes (told.Stopped why) = false
+goes told.Ended = false
+
+abbrev pub Grows : Type 0
+Grows = (t more : List ℕ) (s : Waves) → goes (turn t s .outcome) ≡ true → turn (t ++ more) s ≡ turn t s
+
+abbrev pub without : ℕ → Waves → Waves
+without k s = record { at = s .at - k; left = s .left; probe = s .probe }
+
+abbrev pub Shifts : Type 0
+Shifts =
+    (t : List ℕ) (k : ℕ) (s : Waves) → k ≤ s .at →
+    turn (drop k t) (without k s) ≡ record { state = without k (turn t s .state); outcome = turn t s .outcome }
+
 -- The device is the module's own: each event that doesn't stop the trace leaves it as the step does, and takes as many clocks as it has; a
 -- reset takes none back.
 abbrev pub clocksOf : Event → ℕ
@@ -69,6 +92,23 @@ Own = (p : Probe) (e : Event) → stops p e ≡ 0 → after p e .device ≡ does
 abbrev pub Forward : Type 0
 Forward = (p : Probe) (e : Event) → after p e .clock ≡ p .clock + clocksOf e
 
+-- In the clock of a queue's last edge SCK turns; MISO, MOSI and PCS stand as before it, and so does which pins are driven; TXD and the request
+-- are the module's.
+pub record EdgeDrawn (l now drawn : Look) : Type 0 where
+  pub sck : drawn .levels / 4 % 2 ≡ 1 - l .levels / 4 % 2
+  pub bits : drawn .levels % 4 ≡ l .levels % 4
+  pub selects : drawn .levels / 8 % 16 ≡ l .levels / 8 % 16
+  pub driven : drawn .mask % 128 ≡ l .mask % 128
+  pub txd : drawn .levels / 128 ≡ now .levels / 128
+  pub txd-driven : drawn .mask / 128 ≡ now .mask / 128
+  pub level : drawn .level ≡ now .level
+  pub vector : drawn .vector ≡ now .vector
+
+abbrev pub LastEdge : Type 0
+LastEdge =
+    (p : Probe) → ends (p .device) (tick p .device) ≡ true →
+    EdgeDrawn (look (p .device)) (look (tick p .device)) (viewOf (tick p) .look)
+
 -- A queue that starts with SPBR 4: of the first four clocks of a hold, SCK turns in the last.
 abbrev pub running : Probe
 running = record { clock = 0; known = true; given = true; rxd = true; kept = none; device = held started 0xFF }
@@ -76,9 +116,25 @@ running = record { clock = 0; known = true; given = true; rxd = true; kept = non
 abbrev pub Met : Type 0
 Met = ticks 4 running ≡ stepTo (iterate 3 tick running) (iterate 4 tick running) 0 ∷ []
 
+-- The same queue before edge 16 of its one entry.
+abbrev pub ending : Probe
+ending =
+    record {
+      clock = 63;
+      known = true;
+      given = true;
+      rxd = true;
+      kept = none;
+      device = withQspi (running .device) (withEntry (started .qspi) (withPlace (started .qspi .entry) true false false 1 15 true));
+    }
+
 pub record Shown : Type 0 where
   pub whole : Whole
   pub from-start : FromStart
+  pub grows : Grows
+  pub shifts : Shifts
   pub own : Own
   pub forward : Forward
+  pub last-edge : LastEdge
   pub met : Met
+  pub ends-so : ends (ending .device) (tick ending .device) ≡ true
