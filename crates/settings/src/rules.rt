@@ -2,6 +2,8 @@
 ghost use mathlib.Core.Path.{_≡_};
 ghost use Rattle.settings.specs.Rules.{tries, unmodelled, ranked};
 use crate::records::Edition;
+use qsm::event::Access;
+use qsm::event::Event;
 use qsm::state::Module;
 
 // Settings being written to a module: what it has become, and whether a write so far was refused 3.
@@ -16,7 +18,8 @@ impl Tried {
         ensures { λ r. ⌜ r ≡ tries self offset value ⌝ }
     {
         let m = self.state;
-        let s = qsm::event::write(m, true, 2, offset, value as u32);
+        let a = Access::Write(true, 2, offset, value as u32);
+        let s = qsm::event::step(m, Event::Access(a));
         let state = s.state;
         let answer = s.answer;
         Tried {
