@@ -69,7 +69,7 @@ impl Lines {
         ensures { λ r. ⌜ r ≡ heldFor self pins rxd n left since ⌝ }
     {
         let device = self.device;
-        let s = qsm::event::hold(device, pins, rxd, n);
+        let s = qsm::event::step(device, Event::Hold(pins, rxd, n));
         let after = s.state;
         self.device = after;
         self.left = left;

@@ -1,11 +1,11 @@
 use borrow.Author.Needs.{needs}
-use Rattle.qsm.specs.Event.{does}
+use Rattle.qsm.specs.Event.{does, step}
 use Rattle.gatherer.proofs.Lines.held_for.Statement.{statement}
 use Rattle.gatherer.proofs.Lines.held_for.Tie as tie
 
 returns : tie.Need-returns
-unfolding does
-returns c = rw (c .before .hold .ensures)
+unfolding does step
+returns c = rw (c .before .step .ensures)
 
 pub held-for-spec : {M : Type 1} → statement M
 held-for-spec = tie.close (tie.spec (λ c κs. search needs) returns)
