@@ -1,0 +1,5 @@
+pub mod Scan
+pub mod Names
+pub mod Item
+pub mod Sent
+pub mod Encode

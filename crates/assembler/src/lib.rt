@@ -1,0 +1,6 @@
+// Traces as people write them: a line of text as a record, in the form that `text` prints it, or as a text sent on RXD.
+pub mod encode;
+pub mod item;
+mod names;
+mod scan;
+pub mod sent;
