@@ -1,0 +1,9 @@
+pub mod Digits
+pub mod Steps
+pub mod Lines
+pub mod Holds
+pub mod Names
+pub mod Accesses
+pub mod Records
+pub mod Texts
+pub mod Back
