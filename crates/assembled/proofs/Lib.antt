@@ -7,3 +7,4 @@ pub mod Accesses
 pub mod Records
 pub mod Texts
 pub mod Back
+pub mod Edges

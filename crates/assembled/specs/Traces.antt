@@ -2,7 +2,7 @@
 use mathlib.Core.Path.{_≡_}
 use mathlib.Core.Bool.{Bool, true, false, cond}
 use mathlib.Core.List.{List, [], _∷_, _++_}
-use Prim.Native.Nat.{ℕ, zero, suc, _+_, _-_}
+use Prim.Native.Nat.{ℕ, zero, suc, _+_, _-_, _<_}
 use lib.Dec.{eqb}
 use lib.ListN.{length, drop}
 use Rattle.qsm.specs.declared.event.Event.{Event}
@@ -12,7 +12,7 @@ use Rattle.trace.specs.declared.Parsed.the-variants as traced
 use Rattle.text.specs.Record.{recordLine}
 use Rattle.assembler.specs.Encode.{recordBytes}
 use Rattle.assembler.specs.Item.{item}
-use Rattle.assembler.specs.Sent.{sentBytes, bitHold}
+use Rattle.assembler.specs.Sent.{sentBytes, edge, bitClocks, bitHold}
 use Rattle.assembler.specs.declared.sent.Sent.{Sent}
 use Rattle.assembler.specs.declared.item.Item.{Item}
 use Rattle.assembler.specs.declared.item.Item.the-variants.{Nothing, Record, Text, Bad}
@@ -44,6 +44,14 @@ framed s b k (suc i) = framed s b k i ++ recordBytes (bitHold s b i (k + i) .kin
 unfoldable pub held : Sent → ℕ → List ℕ → List ℕ
 held s k [] = []
 held s k (b ∷ bs) = framed s b k 10 ++ held s (k + 10) bs
+
+-- The clocks of the first k bits of a text. They end where bit k begins, so that no rounding adds up.
+unfoldable pub clocksOf : Sent → ℕ → ℕ
+clocksOf s zero = 0
+clocksOf s (suc k) = clocksOf s k + bitClocks s k
+
+abbrev pub EdgesKept : Type 0
+EdgesKept = (s : Sent) (k : ℕ) → 0 < s .baud → clocksOf s k ≡ edge (s .baud) (s .clock) k
 
 -- What a text makes, or that it makes nothing.
 pub record Assembled : Type 0 where
@@ -87,4 +95,5 @@ pub record GivenBack : Type 0 where
   pub lines : LinesGiveBack
   pub bytes : BytesGiveBack
   pub traces : TracesGiveBack
+  pub edges : EdgesKept
   pub met : Whole sample
