@@ -2,21 +2,15 @@
 ghost use mathlib.Core.Path.{_≡_};
 ghost use Prim.Native.Nat.{_+_, _≤_, _<_};
 ghost use lib.ListN.{length};
-ghost use Rattle.assembler.specs.Scan.{scan};
-ghost use Rattle.assembler.specs.Item.{further, better, resetItem, holdOf, holdItem, accessOf, offsetOf, accessAt, accessNamed, behindAt, behindName, byWhatFollows, named, accessItem, sentOf, behindText, inner, lineItem, colon, fronted, holds, reads, writes, entries, bodyItem, unblanked, item};
-use crate::names::Offset;
-use crate::names::is_name;
-use crate::names::name_length;
-use crate::names::sought;
-use crate::scan::Found;
+ghost use Rattle.assembler.specs.Item.{further, better, resetItem, holdOf, holdItem, colon, fronted, holds, reads, writes, entries, bodyItem, unblanked, item};
+use crate::accesses::access_item;
+use crate::figures::digit_of;
 use crate::scan::Numbers;
 use crate::scan::blanks;
-use crate::scan::digit_of;
 use crate::scan::ending;
 use crate::scan::scan;
 use crate::sent::Sent;
-use crate::sent::quoted;
-use qsm::event::Access;
+use crate::texts::line_item;
 use qsm::event::Event;
 
 // What is wrong with a line.
@@ -35,9 +29,6 @@ pub enum Item {
     Text(Sent),
     Bad(Fault, usize),
 }
-
-// The offsets of the register map end here.
-const MAP_END: u16 = 336;
 
 // The fault that was found further on, or what is no fault.
 fn further(f: Fault, left: usize, y: Item) -> Item
@@ -58,7 +49,7 @@ fn further(f: Fault, left: usize, y: Item) -> Item
 }
 
 // The first of two that is not wrong; else what was understood further.
-fn better(x: Item, y: Item) -> Item
+pub(crate) fn better(x: Item, y: Item) -> Item
     ensures { λ r. ⌜ r ≡ better x y ⌝ }
 {
     match x {
@@ -98,179 +89,6 @@ fn hold_item(kind: u8, pattern: &[u8], text: &[u8]) -> Item
         return Item::Record(kind, hold_of(numbers));
     }
     Item::Bad(Fault::NotUnderstood, f.left)
-}
-
-fn access_of(writes: bool, supervisor: bool, width: u8, offset: u16, value: u64) -> Item
-    ensures { λ r. ⌜ r ≡ accessOf writes supervisor width offset value ⌝ }
-{
-    if writes {
-        let a = Access::Write(supervisor, width, offset, (value % 4294967296) as u32);
-        return Item::Record(4, Event::Access(a));
-    }
-    let a = Access::Read(supervisor, width, offset);
-    Item::Record(3, Event::Access(a))
-}
-
-// The offset, among the numbers behind the names.
-fn offset_of(writes: bool, n: Numbers) -> u16
-    ensures { λ r. ⌜ r ≡ offsetOf writes n ⌝ }
-{
-    if writes {
-        return (n.second % 65536) as u16;
-    }
-    (n.third % 65536) as u16
-}
-
-// With an offset: the names are those of its registers.
-fn access_at(writes: bool, supervisor: bool, width: u8, text: &[u8], k: usize, n: Numbers) -> Item
-    ensures { λ r. ⌜ r ≡ accessAt writes supervisor width (now (text .entry)) k n ⌝ }
-{
-    let offset = offset_of(writes, n);
-    if is_name(width, offset, text, k) {
-        return access_of(writes, supervisor, width, offset, n.third);
-    }
-    Item::Bad(Fault::OtherName, text.len())
-}
-
-// Without one: the offset is the only one with these names.
-fn access_named(
-    writes: bool,
-    supervisor: bool,
-    width: u8,
-    text: &[u8],
-    k: usize,
-    n: Numbers,
-) -> Item
-    ensures { λ r. ⌜ r ≡ accessNamed writes supervisor width (now (text .entry)) k n ⌝ }
-{
-    let found = sought(width, text, k, MAP_END);
-    match found {
-        Offset::Nowhere => Item::Bad(Fault::NoName, text.len()),
-        Offset::At(offset) => access_of(writes, supervisor, width, offset, n.third),
-        Offset::Several => Item::Bad(Fault::ManyNames, text.len()),
-    }
-}
-
-// What stands behind the names: an offset, and a value of a write.
-fn behind_at(writes: bool, rest: &[u8]) -> Found
-    ensures { λ r. ⌜ r ≡ scan (behindAt writes) (now (rest .entry)) ⌝ }
-{
-    if writes {
-        return scan(b" at \x02, value \x03\x1F", rest);
-    }
-    scan(b" at \x02\x1F", rest)
-}
-
-fn behind_name(writes: bool, rest: &[u8]) -> Found
-    ensures { λ r. ⌜ r ≡ scan (behindName writes) (now (rest .entry)) ⌝ }
-{
-    if writes {
-        return scan(b", value \x03\x1F", rest);
-    }
-    scan(b"\x1F", rest)
-}
-
-// From the names on.
-fn named(writes: bool, supervisor: bool, width: u8, text: &[u8]) -> Item
-    ensures { λ r. ⌜ r ≡ named writes supervisor width (now (text .entry)) ⌝ }
-{
-    let k = name_length(text);
-    let f = behind_at(writes, &text[k..]);
-    if f.ok {
-        let numbers = f.numbers;
-        return access_at(writes, supervisor, width, text, k, numbers);
-    }
-    let g = behind_name(writes, &text[k..]);
-    if g.ok {
-        let numbers = g.numbers;
-        return access_named(writes, supervisor, width, text, k, numbers);
-    }
-    better(
-        Item::Bad(Fault::NotUnderstood, f.left),
-        Item::Bad(Fault::NotUnderstood, g.left),
-    )
-}
-
-fn access_item(writes: bool, supervisor: bool, pattern: &[u8], text: &[u8]) -> Item
-    ensures { λ r. ⌜ r ≡ accessItem writes supervisor (now (pattern .entry)) (now (text .entry)) ⌝ }
-{
-    let f = scan(pattern, text);
-    let left = f.left;
-    if f.ok {
-        let numbers = f.numbers;
-        let from = text.len() - left;
-        return named(
-            writes,
-            supervisor,
-            (numbers.third % 128) as u8,
-            &text[from..],
-        );
-    }
-    Item::Bad(Fault::NotUnderstood, left)
-}
-
-// A text sent on RXD, by where it starts, the rate, the clock and the other pins.
-fn sent_of(start: usize, baud: u64, clock: u64, pins: u64) -> Item
-    ensures { λ r. ⌜ r ≡ sentOf start baud clock pins ⌝ }
-{
-    if baud == 0 {
-        return Item::Bad(Fault::NoRate, start);
-    }
-    if clock < baud {
-        return Item::Bad(Fault::NoRate, start);
-    }
-    Item::Text(Sent {
-        start,
-        baud: (baud % 4294967296) as u32,
-        clock: (clock % 4294967296) as u32,
-        pins: (pins % 256) as u8,
-    })
-}
-
-// Behind the text: at its rate, and the clock and the pins where they are said.
-fn behind_text(start: usize, rest: &[u8]) -> Item
-    ensures { λ r. ⌜ r ≡ behindText start (now (rest .entry)) ⌝ }
-{
-    let f = scan(b"\" at \x07\x1F", rest);
-    if f.ok {
-        return sent_of(start, f.numbers.third, 16777216, 0);
-    }
-    let g = scan(b"\" at \x07, clock \x07\x1F", rest);
-    if g.ok {
-        return sent_of(start, g.numbers.second, g.numbers.third, 0);
-    }
-    let h = scan(b"\" at \x07, pins \x01\x1F", rest);
-    if h.ok {
-        return sent_of(start, h.numbers.second, 16777216, h.numbers.third);
-    }
-    let i = scan(b"\" at \x07, clock \x07, pins \x01\x1F", rest);
-    if i.ok {
-        return sent_of(start, i.numbers.first, i.numbers.second, i.numbers.third);
-    }
-    better(
-        Item::Bad(Fault::NotUnderstood, h.left),
-        Item::Bad(Fault::NotUnderstood, i.left),
-    )
-}
-
-// Behind the opening quote.
-fn inner(start: usize, text: &[u8]) -> Item
-    ensures { λ r. ⌜ r ≡ inner start (now (text .entry)) ⌝ }
-{
-    let n = quoted(text);
-    behind_text(start, &text[n..])
-}
-
-fn line_item(text: &[u8]) -> Item
-    ensures { λ r. ⌜ r ≡ lineItem (now (text .entry)) ⌝ }
-{
-    let f = scan(b"line \"", text);
-    let left = f.left;
-    if f.ok {
-        let from = text.len() - left;
-        return inner(left, &text[from..]);
-    }
-    Item::Bad(Fault::NotUnderstood, left)
 }
 
 // A colon behind digits.

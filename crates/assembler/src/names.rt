@@ -44,7 +44,7 @@ fn stops(text: &[u8]) -> bool
 }
 
 // The bytes of the names that a text begins with.
-pub fn name_length(text: &[u8]) -> usize
+pub(crate) fn name_length(text: &[u8]) -> usize
     ensures { λ r. ⌜ r ≡ nameLength (now (text .entry)) ⌝ }
     ensures { λ r. ⌜ r ≤ length (now (text .entry)) ⌝ }
 {
@@ -82,7 +82,7 @@ fn names(width: u8, offset: u16) -> Line
 }
 
 // Whether the first k bytes of a text are the names of what an access of that width touches at an offset.
-pub fn is_name(width: u8, offset: u16, text: &[u8], k: usize) -> bool
+pub(crate) fn is_name(width: u8, offset: u16, text: &[u8], k: usize) -> bool
     ensures { λ r. ⌜ r ≡ isName width offset (now (text .entry)) k ⌝ }
 {
     let line = names(width, offset);
@@ -130,7 +130,7 @@ fn at_offset(width: u8, offset: u16, text: &[u8], k: usize) -> bool
 }
 
 // The offset below `end` whose names the first k bytes of a text are.
-pub fn sought(width: u8, text: &[u8], k: usize, end: u16) -> Offset
+pub(crate) fn sought(width: u8, text: &[u8], k: usize, end: u16) -> Offset
     ensures { λ r. ⌜ r ≡ sought width (now (text .entry)) k end ⌝ }
 {
     let mut found = Offset::Nowhere;

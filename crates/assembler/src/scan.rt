@@ -2,7 +2,9 @@
 ghost use mathlib.Core.Path.{_≡_};
 ghost use Prim.Native.Nat.{_+_, _<_, _≤_};
 ghost use lib.ListN.{length, getD};
-ghost use Rattle.assembler.specs.Scan.{isBlank, blanks, digitOf, limit, takes, digits, nothing, some, number, numeral, literal, gap, commented, ending, element, pushed, scan};
+ghost use Rattle.assembler.specs.Scan.{isBlank, blanks, nothing, some, number, numeral, literal, gap, commented, ending, element, pushed, scan};
+use crate::figures::digits;
+use crate::figures::limit;
 
 // What a text begins with: a number, and the bytes of it.
 pub struct Figures {
@@ -33,14 +35,14 @@ pub struct Found {
 }
 
 // A space, a tab or a carriage return.
-pub fn is_blank(b: u8) -> bool
+pub(crate) fn is_blank(b: u8) -> bool
     ensures { λ r. ⌜ r ≡ isBlank b ⌝ }
 {
     (b == 32) | (b == 9) | (b == 13)
 }
 
 // The byte at a place, 0 past the end.
-pub fn byte(text: &[u8], i: usize) -> u8
+pub(crate) fn byte(text: &[u8], i: usize) -> u8
     ensures { λ r. ⌜ r ≡ getD (now (text .entry)) i 0 ⌝ }
 {
     if i < text.len() {
@@ -50,7 +52,7 @@ pub fn byte(text: &[u8], i: usize) -> u8
 }
 
 // The blanks that a text begins with.
-pub fn blanks(text: &[u8]) -> usize
+pub(crate) fn blanks(text: &[u8]) -> usize
     ensures { λ r. ⌜ r ≡ blanks (now (text .entry)) ⌝ }
     ensures { λ r. ⌜ r ≤ length (now (text .entry)) ⌝ }
 {
@@ -62,91 +64,6 @@ pub fn blanks(text: &[u8]) -> usize
         i += 1;
     }
     i
-}
-
-// The digit that a byte is, or 16.
-pub fn digit_of(b: u8) -> u8
-    ensures { λ r. ⌜ r ≡ digitOf b ⌝ }
-{
-    if b < 48 {
-        return 16;
-    }
-    if b < 58 {
-        return b - 48;
-    }
-    if b < 65 {
-        return 16;
-    }
-    if b < 71 {
-        return b - 55;
-    }
-    if b < 97 {
-        return 16;
-    }
-    if b < 103 {
-        return b - 87;
-    }
-    16
-}
-
-// The first number that is too big for a field.
-fn limit(c: u8) -> u64
-    ensures { λ r. ⌜ r ≡ limit c ⌝ }
-    ensures { λ r. ⌜ r ≤ 4294967296 ⌝ }
-{
-    if c == 1 {
-        return 256;
-    }
-    if c == 2 {
-        return 65536;
-    }
-    if c == 4 {
-        return 2;
-    }
-    if c == 5 {
-        return 128;
-    }
-    if c == 6 {
-        return 65536;
-    }
-    4294967296
-}
-
-// Whether a digit belongs to a number of a base that is to stay below a limit.
-fn takes(base: u64, most: u64, n: u64, b: u8) -> bool
-    requires { ⌜ (base < 17) × (n < 4294967296) ⌝ }
-    ensures { λ r. ⌜ r ≡ takes base most n b ⌝ }
-{
-    let d = digit_of(b) as u64;
-    if base <= d {
-        return false;
-    }
-    n * base + d < most
-}
-
-// The number of a base, below a limit, that a text begins with.
-fn digits(base: u64, most: u64, text: &[u8]) -> Figures
-    requires { ⌜ (base < 17) × (most ≤ 4294967296) ⌝ }
-    ensures { λ r. ⌜ r ≡ digits base most 0 0 (now (text .entry)) ⌝ }
-    ensures { λ r. ⌜ r .length ≤ length (now (text .entry)) ⌝ }
-{
-    let mut n: u64 = 0;
-    let mut i = 0;
-    while i < text.len() {
-        let b = text[i];
-        if !takes(base, most, n, b) {
-            return Figures {
-                value: n,
-                length: i,
-            };
-        }
-        n = n * base + digit_of(b) as u64;
-        i += 1;
-    }
-    Figures {
-        value: n,
-        length: i,
-    }
 }
 
 fn nothing() -> Taken
@@ -244,7 +161,7 @@ fn commented(b: u8, n: usize) -> Taken
 }
 
 // The end of the line, with blanks and a comment before it or without.
-pub fn ending(text: &[u8]) -> Taken
+pub(crate) fn ending(text: &[u8]) -> Taken
     ensures { λ r. ⌜ r ≡ ending (now (text .entry)) ⌝ }
     ensures { λ r. ⌜ r .length ≤ length (now (text .entry)) ⌝ }
 {
@@ -298,7 +215,7 @@ impl Numbers {
 }
 
 // A text held against a pattern.
-pub fn scan(pattern: &[u8], text: &[u8]) -> Found
+pub(crate) fn scan(pattern: &[u8], text: &[u8]) -> Found
     ensures { λ r. ⌜ r ≡ scan (now (pattern .entry)) (now (text .entry)) ⌝ }
     ensures { λ r. ⌜ r .left ≤ length (now (text .entry)) ⌝ }
 {

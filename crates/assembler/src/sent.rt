@@ -3,8 +3,8 @@ ghost use mathlib.Core.Path.{_≡_};
 ghost use Prim.Native.Nat.{_≤_};
 ghost use lib.ListN.{length};
 ghost use Rattle.assembler.specs.Sent.{of, escaped, hexPair, behindBackslash, spelled, character, quoted, level, edge, bitClocks, holdKindOf, bitHold};
+use crate::figures::digit_of;
 use crate::scan::byte;
-use crate::scan::digit_of;
 use qsm::event::Event;
 
 // A text sent on RXD: the bytes of its line from its start on, the rate, the system clock in hertz, and the levels of the other pins.
@@ -104,7 +104,7 @@ pub fn first(text: &[u8]) -> Character
 }
 
 // The bytes of a quoted text.
-pub fn quoted(text: &[u8]) -> usize
+pub(crate) fn quoted(text: &[u8]) -> usize
     ensures { λ r. ⌜ r ≡ quoted (length (now (text .entry))) 0 (now (text .entry)) ⌝ }
     ensures { λ r. ⌜ r ≤ length (now (text .entry)) ⌝ }
 {
