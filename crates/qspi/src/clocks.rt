@@ -13,6 +13,7 @@ use crate::fields::cont;
 use crate::fields::minus;
 use crate::fields::spe;
 use crate::inputs::miso_of;
+use crate::rounds::LONG;
 
 // Clocks before the next edge, the delay's end or clock 1.
 fn before_change(running: bool, ready: bool, left: u16) -> u32
@@ -149,9 +150,11 @@ impl Qspi {
         ensures { λ r. ⌜ r ≡ iterate n (λ q. clock q pins) self ⌝ }
     {
         if n <= self.quiet(pins) {
-            self.skipped(n)
-        } else {
-            self.rounds(n, pins)
+            return self.skipped(n);
         }
+        if n <= LONG {
+            return self.played(n, pins);
+        }
+        self.rounds(n, pins)
     }
 }

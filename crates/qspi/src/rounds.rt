@@ -16,7 +16,7 @@ use crate::fields::wren;
 use crate::queue::wrap_to;
 
 // In a hold of fewer clocks a round is not looked for.
-const LONG: u32 = 4096;
+pub(crate) const LONG: u32 = 4096;
 
 fn least(a: u32, b: u32) -> u32
     ensures { λ r. ⌜ r ≡ min a b ⌝ }
