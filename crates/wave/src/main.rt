@@ -9,6 +9,7 @@ use run::Next;
 use run::Turned;
 use text::line::Line;
 use text::number::Number;
+use trace::Stop;
 
 mod run;
 
@@ -21,9 +22,9 @@ fn say_line(line: Line) {
 // Why a trace stopped, and the place in bytes of the record before which it did.
 fn stop_words(line: Line, why: u8) -> Line {
     match why {
-        5 => line.write(b"unknown record kind"),
-        6 => line.write(b"record cut by the end of the trace"),
-        _ => line.write(b"the clocks since reset or since the start would pass 2^64 - 1"),
+        5 => line.stop_words(Stop::UnknownKind),
+        6 => line.stop_words(Stop::CutRecord),
+        _ => line.stop_words(Stop::ClockLimit),
     }
 }
 
