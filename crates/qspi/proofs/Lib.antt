@@ -6,6 +6,7 @@ pub mod Word
 pub mod Delay
 pub mod Begun
 pub mod Quiet
+pub mod Fallen
 pub mod Returning
 pub mod Deciding
 pub mod Cases

@@ -148,7 +148,7 @@ at-end zero q pins none = refl
 at-end (suc n) q pins none = absurd (omega arith)
 
 -- An edge before edge 2n after quiet clocks: nothing of them is left but the edge.
-and-parts : (a b : Bool) → a && b ≡ true → (a ≡ true) × (b ≡ true)
+pub and-parts : (a b : Bool) → a && b ≡ true → (a ≡ true) × (b ≡ true)
 and-parts true b h = (refl, h)
 and-parts false b h = (h, cc)
 

@@ -2,6 +2,7 @@ pub mod Parts
 pub mod Fields
 pub mod Spsr
 pub mod Entry
+pub mod Falls
 pub mod Registers
 pub mod Ram
 pub mod Queue

@@ -43,9 +43,13 @@ skipped k q =
 abbrev pub plays : Qspi → Pins → Bool
 plays q pins = (spe (q .registers .spcr1) && not (faultNow q pins)) && q .entry .playing
 
--- Clocks to the next edge, its own included, and whether it falls in the next n clocks and is an edge before edge 2n.
+-- Clocks to an edge, its own included.
+abbrev pub atLeastOne : ℕ → ℕ
+atLeastOne left = cond (leb left 1) 1 left
+
+-- Those to the next edge, and whether it falls in the next n clocks and is an edge before edge 2n.
 abbrev pub untilEdge : Entry → ℕ
-untilEdge e = cond (leb (e .left) 1) 1 (e .left)
+untilEdge e = atLeastOne (e .left)
 
 abbrev pub edgeWithin : ℕ → ℕ → Entry → Bool
 edgeWithin spcr0 n e = leb (untilEdge e) n && ltb (e .edges % 32 + 1) (bitsOf spcr0 (e .command) * 2)

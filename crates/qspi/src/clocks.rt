@@ -3,7 +3,7 @@ ghost use mathlib.Core.Path.{_≡_};
 ghost use Prim.Native.Nat.{_-_};
 ghost use Rattle.steps.specs.Iterate.{iterate};
 ghost use Rattle.qspi.specs.Queue.{clock};
-ghost use Rattle.qspi.specs.Quiet.{countedDown, beforeChange, quietIf, quiet, skippedIf, skipped, plays, untilEdge, edgeWithin};
+ghost use Rattle.qspi.specs.Quiet.{countedDown, beforeChange, quietIf, quiet, skippedIf, skipped, plays, atLeastOne, untilEdge, edgeWithin};
 use crate::Pins;
 use crate::Qspi;
 use crate::entry::Entry;
@@ -11,6 +11,7 @@ use crate::fields::bits_of;
 use crate::fields::choose_word;
 use crate::fields::cont;
 use crate::fields::minus;
+use crate::fields::spbr;
 use crate::fields::spe;
 use crate::inputs::miso_of;
 use crate::rounds::LONG;
@@ -32,6 +33,13 @@ fn less(left: u16, k: u32) -> u16
     if k < left as u32 { left - k as u16 } else { 0 }
 }
 
+// Clocks to an edge, with its own.
+fn at_least_one(left: u16) -> u32
+    ensures { λ r. ⌜ r ≡ atLeastOne left ⌝ }
+{
+    choose_word(left <= 1, 1, left) as u32
+}
+
 impl Entry {
     // k quiet clocks. In the delay PCS stay only with CONT.
     fn counted_down(mut self, k: u32) -> Entry
@@ -46,7 +54,7 @@ impl Entry {
     pub(crate) fn until_edge(self) -> u32
         ensures { λ r. ⌜ r ≡ untilEdge self ⌝ }
     {
-        choose_word(self.left <= 1, 1, self.left) as u32
+        at_least_one(self.left)
     }
 
     // An edge before edge 2n falls in the next n clocks.
@@ -126,12 +134,17 @@ impl Qspi {
         while 0 < left {
             if q.plays(pins) {
                 let spcr0 = q.registers.spcr0;
-                let mut e = q.entry;
-                while e.edge_within(spcr0, left) {
-                    left -= e.until_edge();
-                    e = e.edge_fallen(spcr0, e.edges % 32 + 1, miso);
+                let e = q.entry;
+                let last = bits_of(spcr0, e.command) * 2;
+                let gap = at_least_one(spbr(spcr0));
+                let mut j = e.edges % 32;
+                let mut until = e.until_edge();
+                while (until <= left) & (((j + 1) as u16) < last) {
+                    left -= until;
+                    until = gap;
+                    j += 1;
                 }
-                q.entry = e;
+                q.entry = e.edges_fallen(spcr0, j, miso);
             }
             let k = q.quiet(pins);
             if left <= k {

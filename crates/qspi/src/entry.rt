@@ -32,13 +32,13 @@ pub struct Entry {
 }
 
 // MOSI changes on this edge.
-fn changes(cpha: bool, j: u8) -> bool
+pub(crate) fn changes(cpha: bool, j: u8) -> bool
     ensures { λ r. ⌜ r ≡ changes cpha j ⌝ }
 {
     if cpha { j % 2 == 1 } else { j % 2 == 0 }
 }
 
-fn bit_out(w: u16, n: u16, i: u16) -> bool
+pub(crate) fn bit_out(w: u16, n: u16, i: u16) -> bool
     ensures { λ r. ⌜ r ≡ bitOut w n i ⌝ }
 {
     (w >> (minus(minus(n, 1), i) % 16)) % 2 == 1
@@ -51,7 +51,7 @@ fn mosi_after(cpha: bool, n: u16, w: u16, j: u8, mosi: bool) -> bool
     choose_bit(changes(cpha, j) & (i < n), bit_out(w, n, i), mosi)
 }
 
-fn pushed(collected: u16, miso: bool) -> u16
+pub(crate) fn pushed(collected: u16, miso: bool) -> u16
     ensures { λ r. ⌜ r ≡ pushed collected miso ⌝ }
 {
     if miso {

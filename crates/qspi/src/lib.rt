@@ -1,6 +1,7 @@
 // The queue side of the module: SPCR0 to SPCR3, SPSR, the queue RAM, and the queue clock by clock.
 pub mod clocks;
 pub mod entry;
+pub mod falls;
 pub mod fields;
 pub mod inputs;
 mod laws;
