@@ -12,7 +12,7 @@ use crate::serial::Sci;
 use crate::status::Status;
 use crate::transmitter::Transmitter;
 
-// Fewer clocks are played as they are: looking for rest costs more than they do.
+// With no more clocks left, rest is looked for after a hold's first sample only: looking costs more than playing them.
 const LONG: u32 = 4096;
 
 impl Transmitter {
@@ -109,8 +109,9 @@ impl Sci {
         }
     }
 
-    // n clocks at one level of RXD. The clock after the quiet ones brings a sample, which restarts the count. A line at one level comes to
-    // rest after what is under way, what waits and an idle line: so many samples are played, whatever n is.
+    // n clocks at one level of RXD. The clock after the quiet ones brings a sample, which restarts the count. Rest is looked for after the first
+    // sample, and after each one while many clocks are left: a line at one level comes to rest after what is under way, what waits and an idle
+    // line, so samples beyond those are played in the last LONG clocks at most.
     // Ruled out: only the first clock played; one clock too many.
     pub fn clocks(self, n: u32, x: bool) -> Sci
         ensures { λ r. ⌜ r ≡ iterate n (λ s. clocked s x) self ⌝ }
@@ -118,12 +119,14 @@ impl Sci {
         let mut s = self;
         let mut left = n;
         let mut k = s.quiet();
+        let mut first = true;
         while k < left {
             s = s.sample(x);
             left -= k + 1;
-            if LONG < left {
+            if first | (LONG < left) {
                 left = s.shortened(left, x);
             }
+            first = false;
             k = s.quiet();
         }
         s.skipped(left)

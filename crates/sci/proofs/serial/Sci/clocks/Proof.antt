@@ -13,11 +13,11 @@ use Rattle.sci.proofs.serial.Sci.clocks.Statement.{statement}
 use Rattle.sci.proofs.serial.Sci.clocks.Tie as tie
 
 abbrev Inv-loop : tie.InvT-loop
-Inv-loop n x s₀ left₀ k₀ s left k =
+Inv-loop n x s₀ left₀ k₀ first₀ s left k first =
     (left ≤ n) × ((k ≡ quiet s) × ((s .prescaler ≤ 65535) × (iterate left (λ s. clocked s x) s ≡ iterate n (λ s. clocked s x) s₀)))
 
 abbrev μ-loop : tie.MeasureT-loop
-μ-loop n x s₀ left₀ k₀ s left k = left
+μ-loop n x s₀ left₀ k₀ first₀ s left k first = left
 
 loop-holds : tie.Need-loop-holds Inv-loop μ-loop
 loop-holds c = (omega arith, (c .quiet .ensures, (omega arith, refl)))
