@@ -55,9 +55,9 @@ third true true c d e = rw e
 third true false c d e = refl
 third false b c d e = refl
 
--- An RT at which nothing is done is none of those at which something is.
-module _ (rt : ℕ) (e : busy rt ≡ false) where
-  not-next : (k : ℕ) → bit k 33748 ≡ true → eqb (rt % 16 + 1) (k + 1) ≡ false
+-- An RT at which nothing is done is none of those at which something is, the bits of `at`.
+module _ (rt at : ℕ) (e : bit (rt % 16) at ≡ false) where
+  not-next : (k : ℕ) → bit k at ≡ true → eqb (rt % 16 + 1) (k + 1) ≡ false
   not-next k t =
       ne-eqb (rt % 16 + 1) (k + 1)
       (λ h.
@@ -65,7 +65,7 @@ module _ (rt : ℕ) (e : busy rt ≡ false) where
       let z : _≡_ {A = ℕ} 0 1 = cc in
       omega arith)
 
-  not-now : (k : ℕ) → k < 16 → bit k 33748 ≡ true → eqb rt k ≡ false
+  not-now : (k : ℕ) → k < 16 → bit k at ≡ true → eqb rt k ≡ false
   not-now k b t =
       ne-eqb rt k
       (λ h.
@@ -73,29 +73,32 @@ module _ (rt : ℕ) (e : busy rt ≡ false) where
       let z : _≡_ {A = ℕ} 0 1 = cc in
       omega arith)
 
-  unvoted : (leb 8 (rt % 16 + 1) && leb (rt % 16 + 1) 10) ≡ false
-  unvoted = go (leb 8 (rt % 16 + 1)) (leb (rt % 16 + 1) 10) refl refl
+  unvoted : bit 7 at ≡ true → bit 8 at ≡ true → bit 9 at ≡ true → (leb 8 (rt % 16 + 1) && leb (rt % 16 + 1) 10) ≡ false
+  unvoted t₈ t₉ t₁₀ = go (leb 8 (rt % 16 + 1)) (leb (rt % 16 + 1) 10) refl refl
     where
       go : (a b : Bool) → leb 8 (rt % 16 + 1) ≡ a → leb (rt % 16 + 1) 10 ≡ b → (a && b) ≡ false
       go true true p q =
           let low : _ = leb-true 8 (rt % 16 + 1) p in
           let high : _ = leb-true (rt % 16 + 1) 10 q in
-          let eight : _ = eqb-false (rt % 16 + 1) 8 (not-next 7 refl) in
-          let nine : _ = eqb-false (rt % 16 + 1) 9 (not-next 8 refl) in
-          let ten : _ = eqb-false (rt % 16 + 1) 10 (not-next 9 refl) in
+          let eight : _ = eqb-false (rt % 16 + 1) 8 (not-next 7 t₈) in
+          let nine : _ = eqb-false (rt % 16 + 1) 9 (not-next 8 t₉) in
+          let ten : _ = eqb-false (rt % 16 + 1) 10 (not-next 9 t₁₀) in
           absurd (omega arith)
       go true false p q = refl
       go false b p q = refl
 
-in-frame : (n : ℕ) (f : Framer) (x : Bool) → busy (f .rt) ≡ false → (starting stopping : Bool) →
+in-frame : (n : ℕ) (f : Framer) (x starting stopping : Bool) → busy starting (f .rt) ≡ false →
     inBit starting stopping n f (nextRt f) x ≡ atRt f (nextRt f)
 unfolding startBit stopBit dataBit
-in-frame n f x e true stopping =
-    rw (not-next (f .rt) e 2 refl, not-next (f .rt) e 4 refl, not-next (f .rt) e 6 refl, not-next (f .rt) e 15 refl, unvoted (f .rt) e)
-in-frame n f x e false true =
-    rw (not-next (f .rt) e 7 refl, not-next (f .rt) e 8 refl, not-next (f .rt) e 9 refl)
-in-frame n f x e false false =
-    rw (not-next (f .rt) e 7 refl, not-next (f .rt) e 8 refl, not-next (f .rt) e 9 refl, not-next (f .rt) e 15 refl)
+in-frame n f x true stopping e =
+    let other : (k : ℕ) → bit k 33748 ≡ true → eqb (nextRt f) (k + 1) ≡ false = not-next (f .rt) 33748 e in
+    rw (other 2 refl, other 4 refl, other 6 refl, other 15 refl, unvoted (f .rt) 33748 e refl refl refl)
+in-frame n f x false true e =
+    let other : (k : ℕ) → bit k 33664 ≡ true → eqb (nextRt f) (k + 1) ≡ false = not-next (f .rt) 33664 e in
+    rw (other 7 refl, other 8 refl, other 9 refl)
+in-frame n f x false false e =
+    let other : (k : ℕ) → bit k 33664 ≡ true → eqb (nextRt f) (k + 1) ≡ false = not-next (f .rt) 33664 e in
+    rw (other 7 refl, other 8 refl, other 9 refl, other 15 refl)
 
 no-start : (framing ones x : Bool) → (not ones || x) ≡ true → (not framing && ones && not x) ≡ false
 no-start true ones x h = refl
@@ -117,12 +120,13 @@ moves : (n : ℕ) (f : Framer) (ones x : Bool) → rests f ones x ≡ true → f
 unfolding rests rested framed fixed
 moves n f ones x h =
     let level : (not ones || x) ≡ true = first (not ones || x) _ h in
-    rw (no-fall n f ones x level) (go (f .framing) level (not-busy (f .framing) (busy (f .rt)) (second (not ones || x) _ h)))
+    rw (no-fall n f ones x level)
+    (go (f .framing) level (not-busy (f .framing) (busy (f .starting) (f .rt)) (second (not ones || x) _ h)))
   where
-    go : (b : Bool) → (not ones || x) ≡ true → (b ≡ true → busy (f .rt) ≡ false) →
+    go : (b : Bool) → (not ones || x) ≡ true → (b ≡ true → busy (f .starting) (f .rt) ≡ false) →
         cond b (inBit (f .starting) (eqb (f .left) 0) n f (nextRt f) x) (searched (begins f ones x) f n)
         ≡ cond b (atRt f (nextRt f)) f
-    go true level idle = in-frame n f x (idle refl) (f .starting) (eqb (f .left) 0)
+    go true level idle = in-frame n f x (f .starting) (eqb (f .left) 0) (idle refl)
     go false level idle = rw (no-start (f .framing) ones x level)
 
 -- What a frame does not do where it rests.
@@ -134,17 +138,25 @@ record Resting (f : Framer) (ones x : Bool) : Type 0 where
 resting : (f : Framer) (ones x : Bool) → rests f ones x ≡ true → Resting f ones x
 unfolding rests
 resting f ones x h =
-    go (f .framing) refl (not-busy (f .framing) (busy (f .rt)) (second (not ones || x) _ h))
+    go (f .framing) (f .starting) refl refl
+    (not-busy (f .framing) (busy (f .starting) (f .rt)) (second (not ones || x) _ h))
   where
-    go : (b : Bool) → f .framing ≡ b → (b ≡ true → busy (f .rt) ≡ false) → Resting f ones x
-    go true e quiet =
-        let idle : busy (f .rt) ≡ false = quiet refl in
+    go : (framing starting : Bool) → f .framing ≡ framing → f .starting ≡ starting →
+        (framing ≡ true → busy starting (f .rt) ≡ false) → Resting f ones x
+    go true true e s idle =
         record {
           begun = no-start (f .framing) ones x (first (not ones || x) _ h);
-          abandoned = third (f .framing) (f .starting) (eqb (f .rt) 6) _ (not-now (f .rt) idle 6 (omega arith) refl);
-          ended = rw (not-now (f .rt) idle 9 (omega arith) refl, and-false);
+          abandoned =
+              third (f .framing) (f .starting) (eqb (f .rt) 6) _ (not-now (f .rt) 33748 (idle refl) 6 (omega arith) refl);
+          ended = rw (e, s);
         }
-    go false e quiet =
+    go true false e s idle =
+        record {
+          begun = no-start (f .framing) ones x (first (not ones || x) _ h);
+          abandoned = rw (e, s);
+          ended = rw (not-now (f .rt) 33664 (idle refl) 9 (omega arith) refl, and-false);
+        }
+    go false starting e s idle =
         record { begun = no-start (f .framing) ones x (first (not ones || x) _ h); abandoned = rw e; ended = rw e }
 
 pub passes : (r : Receiver) (s : Status) (sccr1 : ℕ) (x : Bool) → plain r (bitsOf (M sccr1)) x ≡ true →

@@ -15,7 +15,7 @@ use Rattle.sci.specs.Receiver.{three, reaches, idleCount, outcome, recei
 use Rattle.sci.specs.Account.{counting}
 use Rattle.sci.specs.Transmitter.{sent}
 use Rattle.sci.specs.Serial.{active, heard, afterReceived, afterSent, sampled, clocked}
-use Rattle.sci.specs.Plain.{busy, plain, passed, rested, turns, shifted, rests as framerRests}
+use Rattle.sci.specs.Plain.{plain, passed, rested, turns, shifted, rests as framerRests}
 use Rattle.sci.specs.Quiet.{quiet, withCount, senderRests, receiverRests, rests, shortened}
 use Rattle.sci.specs.declared.account.Account.{Account}
 use Rattle.sci.specs.declared.framer.Framer.{Framer}

@@ -13,13 +13,13 @@ use Rattle.sci.specs.declared.receiver.Received.{Received}
 use Rattle.sci.specs.declared.status.Status.{Status}
 use Rattle.sci.specs.declared.transmitter.Transmitter.{Transmitter}
 
--- After RT rt comes RT3, RT5, RT7 to RT10 or RT16: the bits 2, 4, 6 to 9 and 15.
-abbrev pub busy : ℕ → Bool
-busy rt = bit (rt % 16) 33748
+-- After RT rt comes RT8 to RT10 or RT16, the bits 7 to 9 and 15; in a start bit RT3, RT5 or RT7 too, the bits 2, 4 and 6.
+abbrev pub busy : Bool → ℕ → Bool
+busy starting rt = bit (rt % 16) (cond starting 33748 33664)
 
 -- No zero after three ones; and in a frame no bit is sampled, voted on or ended.
 unfoldable pub rests : Framer → Bool → Bool → Bool
-rests f three x = (not three || x) && not (f .framing && busy (f .rt))
+rests f three x = (not three || x) && not (f .framing && busy (f .starting) (f .rt))
 
 unfoldable pub rested : Framer → Framer
 rested f = cond (f .framing) (atRt f (nextRt f)) f

@@ -113,7 +113,7 @@ impl Framer {
     pub fn rests(self, three: bool, x: bool) -> bool
         ensures { λ r. ⌜ r ≡ rests self three x ⌝ }
     {
-        (!three | x) & !(self.framing & busy(self.rt))
+        (!three | x) & !(self.framing & busy(self.starting, self.rt))
     }
 
     // Such a sample.
@@ -336,11 +336,12 @@ fn more(noise: u8, by: u8) -> u8
     if noise < 255 - by { noise + by } else { 255 }
 }
 
-// Whether something is done at the RT after this one: RT3, RT5, RT7 to RT10 and RT16, as the bits 2, 4, 6 to 9 and 15.
-fn busy(rt: u8) -> bool
-    ensures { λ r. ⌜ r ≡ busy rt ⌝ }
+// Whether something is done at the RT after this one: RT8 to RT10 and RT16, as the bits 7 to 9 and 15; in a start bit RT3, RT5 and RT7 too,
+// as the bits 2, 4 and 6.
+fn busy(starting: bool, rt: u8) -> bool
+    ensures { λ r. ⌜ r ≡ busy starting rt ⌝ }
 {
-    let at: u16 = 33748;
+    let at: u16 = if starting { 33748 } else { 33664 };
     (at >> (rt % 16)) % 2 == 1
 }
 
