@@ -5,8 +5,8 @@ use Prim.Native.Nat.{ℕ, _+_, _≤_}
 use native.Mathlib.Omega.{arith}
 use lib.Dec.{eqb}
 use Rattle.qsm.specs.Word.{put}
-use Rattle.qsm.specs.Decision.{permits, decideRead, storedBy, decideStored}
-use Rattle.qsm.specs.Event.{answerOf, clockLimit, passes, afterRead, readValue, refused, resets, reads, writes, does, step}
+use Rattle.qsm.specs.Decision.{refusalOf, permits, decideRead, storedBy, decideStored}
+use Rattle.qsm.specs.Event.{done, answerOf, clockLimit, passes, afterRead, readValue, refused, resets, reads, writes, does, step}
 use Rattle.qsm.specs.State.{resetModule}
 use Rattle.qsm.specs.Count.{countAfter, Counting}
 use Rattle.qsm.specs.declared.state.Module.{Module}
@@ -61,3 +61,19 @@ within m (event.Access a) h = omega (arith, counts m (event.Access a))
 pub counting : Counting
 unfolding step answerOf
 counting = record { counts = counts; shown = λ m e. refl; within = within }
+
+-- An event that is refused 10 leaves the module as it was.
+limited-if : (p : Bool) (m n : Module) (x y : ℕ) → cond p (done n 0 x) (done m y 0) .refusal ≡ 10 → cond p (done n 0 x) (done m y 0) .state ≡ m
+limited-if true m n x y h = absurd (omega (arith, h))
+limited-if false m n x y h = refl
+
+pub limited-stays : (m : Module) (e : Event) → step m e .answer .refusal ≡ 10 → step m e .state ≡ m
+unfolding step answerOf does resets reads writes refused
+limited-stays m Reset h = absurd (omega (arith, h))
+limited-stays m (Hold pins rxd n) h =
+    hold-if (λ d. d .refusal ≡ 10 → d .state ≡ m) m pins rxd n (λ _ _. refl) (λ _ is. absurd (omega (arith, is))) h
+limited-stays m (event.Access (Read s w o)) h =
+    limited-if (permits (decideRead m s w o)) m (afterRead m w o) (readValue m w o) (refusalOf (decideRead m s w o)) h
+limited-stays m (event.Access (Write s w o v)) h =
+    limited-if (permits (decideStored m (storedBy m w o v) s w o v)) m (storedBy m w o v .state) 0
+    (refusalOf (decideStored m (storedBy m w o v) s w o v)) h

@@ -90,7 +90,8 @@ impl Module {
         0xFFFFFFFFFFFFFFFF - (n as u64) < self.clock
     }
 
-    // So many clocks at the levels of the last hold and a level on RXD. The halves don't depend on each other within a hold.
+    // So many clocks at the levels of the last hold and a level on RXD. The halves don't depend on each other within a hold, and a queue with
+    // SPE clear stays as it is.
     fn clocks(mut self, rxd: bool, n: u32) -> Module
         requires { ⌜ self .clock + n ≤ clockLimit ⌝ }
         ensures { λ r. ⌜ r ≡ clocks self rxd n ⌝ }
@@ -101,10 +102,12 @@ impl Module {
             ddrqs: self.ddrqs,
         };
         let qspi = self.qspi;
+        if qspi.enabled() {
+            let queue = qspi.clocks(n, pins);
+            self.qspi = queue;
+        }
         let sci = self.sci;
-        let queue = qspi.clocks(n, pins);
         let serial = sci.clocks(n, rxd);
-        self.qspi = queue;
         self.sci = serial;
         self.clock += n as u64;
         self
