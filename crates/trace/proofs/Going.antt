@@ -16,6 +16,7 @@ use Rattle.qsm.specs.declared.event.Event.{Event}
 use Rattle.qsm.specs.declared.event.Stepped.{Stepped}
 use Rattle.qsm.specs.Event.{step}
 use Rattle.qsm.specs.Count.{limited}
+use Rattle.qsm.proofs.Counting.{limited-stays}
 use Rattle.trace.specs.Trace.{parsed, answerLength, answerBytes, reader}
 use Rattle.trace.specs.Play.{Outcome, stopNumber, refusalOf, stopped, answered, followed, turn, play, Plays}
 use Rattle.trace.specs.declared.Parsed.{Parsed}
@@ -148,11 +149,15 @@ module _ (t out₀ : List ℕ) (m₀ : Module) (out : List ℕ) (m : Module) (at
           leaves why (unroll reader m (drop at t) room some ∙ ap (turn reader play m (drop at t) room) here ∙ simp (lt-ltb room answerLength full) (ap (stopped m) (sym e)))
 
       -- Before a hold that would pass 2^64 - 1 clocks.
-      pub at-limit : (why : Stop) (s : Stepped) → answerLength ≤ room → s ≡ step m e → s .answer .refusal ≡ 10 → stopNumber why ≡ 10 → Left why
+      pub at-limit : (why : Stop) (s : Stepped) → answerLength ≤ room → s ≡ step m e → s .answer .refusal ≡ 10 → stopNumber why ≡ 10 →
+          Plays (play m₀ t (length out₀)) out₀ (record { state = s .state; read = at; written = put; stop = why }) out
       at-limit why s has is-step is-10 is-why =
-          let over : limited m e ≡ true = eq-eqb (step m e .answer .refusal) 10 (ap (λ (s : Stepped). s .answer .refusal) (sym is-step) ∙ is-10) in
-          leaves why (unroll reader m (drop at t) room some ∙ ap (turn reader play m (drop at t) room) here
-          ∙ simp (le-ltb room answerLength has, over) (ap (stopped m) (sym is-why)))
+          let refused-10 : step m e .answer .refusal ≡ 10 = ap (λ (s : Stepped). s .answer .refusal) (sym is-step) ∙ is-10 in
+          let over : limited m e ≡ true = eq-eqb (step m e .answer .refusal) 10 refused-10 in
+          let same : s .state ≡ m = ap (λ (s : Stepped). s .state) is-step ∙ limited-stays m e refused-10 in
+          subst (λ (k : Module). Plays (play m₀ t (length out₀)) out₀ (record { state = k; read = at; written = put; stop = why }) out) (sym same)
+          (leaves why (unroll reader m (drop at t) room some ∙ ap (turn reader play m (drop at t) room) here
+          ∙ simp (le-ltb room answerLength has, over) (ap (stopped m) (sym is-why))))
 
       -- Past a record: its answer is written, and the trace goes on.
       pub goes-on : (s : Stepped) (part : List ℕ) → answerLength ≤ room → s ≡ step m e → (s .answer .refusal ≡ 10 → ⊥)

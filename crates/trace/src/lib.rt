@@ -227,6 +227,9 @@ pub fn play(m: Module, trace: &[u8], out: &mut [u8]) -> Played
         }
         let s = qsm::event::step(state, e);
         let answer = s.answer;
+        let next = s.state;
+        // A hold that is refused 10 leaves the module as it was.
+        state = next;
         if answer.refusal == CLOCK_LIMIT {
             return Played {
                 state,
@@ -236,8 +239,6 @@ pub fn play(m: Module, trace: &[u8], out: &mut [u8]) -> Played
             };
         }
         put_answer(&mut out[put..], answer);
-        let next = s.state;
-        state = next;
         at += size;
         put += ANSWER_LENGTH;
     }

@@ -50,20 +50,20 @@ step-requires : tie.Need-step-requires Inv-loop μ-loop
 step-requires c κs = tt
 
 same-length-3 : tie.Need-same-length-3 Inv-loop μ-loop
-same-length-3 c = search (needs, c .before .before .before .before .before .before .before .before .before .before .before .loop .inv .same)
+same-length-3 c = search (needs, c .before .before .before .before .before .before .before .before .before .before .before .before .loop .inv .same)
 
 returns-3 : tie.Need-returns-3 Inv-loop μ-loop
 returns-3 c =
-    let turn = c .before .before .before .before .before .before .before .before in
+    let turn = c .before .before .before .before .before .before .before .before .before in
     let going = turn .before .before .before .loop .inv in
     let test = turn .before .before .loop-test .taken in
-    let stepped = c .before .before .before .step in
-    at-limit _ _ _ _ _ _ _ going test (turn .parse .result) _ _ (turn .parse .ensures) (c .before .before .before .before .before .before .p .given .1) _ (stepped .result) (c .before .before .before .before .if1 .left) (stepped .ensures) (c .if2 .taken) refl
+    let stepped = c .before .before .before .before .step in
+    at-limit _ _ _ _ _ _ _ going test (turn .parse .result) _ _ (turn .parse .ensures) (c .before .before .before .before .before .before .before .p .given .1) _ (stepped .result) (c .before .before .before .before .before .if1 .left) (stepped .ensures) (c .if2 .taken) refl
 
 put-answer-requires : tie.Need-put-answer-requires Inv-loop μ-loop
 put-answer-requires c κs =
-    let loop = c .before .before .before .before .before .before .before .before .before .before .before .before .loop in
-    has-room (loop .out) (loop .put) answerLength (c .before .before .before .before .before .if1 .left)
+    let loop = c .before .before .before .before .before .before .before .before .before .before .before .before .before .loop in
+    has-room (loop .out) (loop .put) answerLength (c .before .before .before .before .before .before .if1 .left)
 
 add-at : tie.Need-add-at Inv-loop μ-loop
 add-at c =
@@ -93,7 +93,7 @@ loop-again c =
     let going = turn .before .before .before .loop .inv in
     let test = turn .before .before .loop-test .taken in
     let stepped = c .before .before .before .before .before .before .before .before .step in
-    goes-on _ _ _ _ _ _ _ going test (turn .parse .result) _ _ (turn .parse .ensures) (c .before .before .before .before .before .before .before .before .before .before .before .p .given .1) (stepped .result) _ (c .before .before .before .before .before .before .before .before .before .if1 .left) (stepped .ensures) (c .before .before .before .before .before .if2 .left) (c .before .before .before .put-answer .ensures)
+    goes-on _ _ _ _ _ _ _ going test (turn .parse .result) _ _ (turn .parse .ensures) (c .before .before .before .before .before .before .before .before .before .before .before .p .given .1) (stepped .result) _ (c .before .before .before .before .before .before .before .before .before .if1 .left) (stepped .ensures) (c .before .before .before .before .if2 .left) (c .before .before .put-answer .ensures)
 
 same-length-4 : tie.Need-same-length-4 Inv-loop μ-loop
 same-length-4 c = search (needs, c .before .loop .inv .same)
