@@ -238,11 +238,11 @@ pub rest-sampled : (s : Sci) (x : Bool) → rests s x ≡ true → sampled s x �
 rest-sampled s x h = leaves s x (rest s x h)
 
 pub shortened-less : (n : ℕ) (s : Sci) (x : Bool) → shortened s n x ≤ n
-shortened-less n s x = go (rests s x)
+shortened-less n s x = go (rests s x) _
   where
-    go : (b : Bool) → cond b (n % (2 * SCBR (s .sccr0))) n ≤ n
-    go true = mod-le n (2 * SCBR (s .sccr0))
-    go false = omega arith
+    go : (b : Bool) (p : ℕ) → cond b (n % p) n ≤ n
+    go true p = mod-le n p
+    go false p = omega arith
 
 -- From a sample on, n clocks leave what `shortened` of them leave.
 pub shortens : (n : ℕ) (s : Sci) (x : Bool) → s .prescaler ≡ 0 →
