@@ -79,17 +79,33 @@ struct One {
     written: usize,
 }
 
+// The bytes of the record at the start of a rest of the trace; none where there is no record.
+fn record_size(rest: &[u8]) -> usize {
+    let p = trace::parse(rest);
+    let Parsed::Record(_, size) = p else {
+        return 0;
+    };
+    size
+}
+
+// An answer has 18 bytes.
+fn answer_size(records: usize) -> usize {
+    if records == 0 { 0 } else { 18 }
+}
+
 fn one_record(m: Module, rest: &[u8]) -> One
     ensures { λ r. ⌜ length (r .answer) ≡ 18 ⌝ }
 {
-    let mut answer = [0u8; 18];
-    let p = trace::play(m, rest, &mut answer);
-    let state = p.state;
+    let size = least(record_size(rest), rest.len());
+    let r = judging::run(m, &rest[0..size], b"", true);
+    let w = r.walked;
+    let state = w.state;
+    let answer = r.ours;
     One {
         state,
-        read: p.read,
+        read: w.read,
         answer,
-        written: p.written,
+        written: answer_size(w.records),
     }
 }
 

@@ -6,8 +6,8 @@ use mathlib.Core.List.{List, [], _∷_, _++_, append-nil, flatten}
 use Prim.Native.Nat.{ℕ, zero, suc, _+_, _-_, _*_, _<_, _≤_, min}
 use native.Mathlib.Omega.{arith}
 use lib.Dec.{eqb, ltb}
-use lib.ListN.{length, take, drop, length-append, length-drop, drop-of-length-le}
-use lib.Seq.{length-take-le, drop-drop, take-all, take-take, take-nil}
+use lib.ListN.{length, take, drop, replicate, length-append, length-drop, drop-of-length-le}
+use lib.Seq.{length-take-le, drop-drop, take-all, take-take, take-nil, drop-append-seam}
 use borrow.Author.Tests.{lt-ltb, le-ltb, ltb-true, ltb-false, eq-eqb, ne-eqb}
 use types.Run.{OneOf}
 use denote.Enum.Declared.{tagOf}
@@ -16,6 +16,7 @@ use Rattle.qsm.specs.declared.event.Event.{Event}
 use Rattle.qsm.specs.declared.event.Stepped.{Stepped}
 use Rattle.qsm.specs.Event.{step}
 use Rattle.qsm.specs.Count.{limited}
+use Rattle.qsm.proofs.Counting.{limited-stays}
 use Rattle.trace.specs.Trace.{parsed, answerLength, answerBytes, reader}
 use Rattle.trace.specs.Play.{Outcome, refusalOf, stopped, answered, followed, turn, play}
 use Rattle.trace.specs.declared.Parsed.{Parsed}
@@ -24,10 +25,10 @@ use Rattle.trace.proofs.Parsed as P
 use Rattle.trace.proofs.Playing.{unroll, play-none, record-within, one-on, followed-assoc}
 use Rattle.trace.proofs.Going.{rest, flatten-snoc, refused}
 use Rattle.judging.specs.Verdict.{verdict, numbered, before}
-use Rattle.judging.specs.Judge.{enough, roomOf, walkedTo, walked}
+use Rattle.judging.specs.Judge.{enough, roomOf, walkedTo, lastOf, ran}
 use Rattle.judging.specs.declared.Verdict.{Verdict}
 use Rattle.judging.specs.declared.Verdict.the-variants.{Accepted}
-use Rattle.judging.specs.declared.Walked.{Walked}
+use Rattle.judging.specs.declared.Ran.{Ran}
 use Rattle.judging.proofs.Verdicts.{none-right, joined}
 
 -- ---- parts of a list
@@ -80,10 +81,18 @@ full : (last : Bool) (t log : List ℕ) (n passed here : ℕ) → answerLength *
 full true t log n passed here room is-passed is-here e = absurd (true≢false (sym e))
 full false t log n passed here room is-passed is-here e = let less = ltb-true here answerLength e in omega arith
 
+-- An answer behind others is the last.
+last-added : (xs bs : List ℕ) → length bs ≡ answerLength → lastOf (xs ++ bs) ≡ bs
+last-added xs bs whole =
+    let long : length (xs ++ bs) ≡ length xs + answerLength = length-append xs bs ∙ ap (λ (k : ℕ). length xs + k) whole in
+    let some : eqb (length (xs ++ bs)) 0 ≡ false = ne-eqb (length (xs ++ bs)) 0 (λ e. omega (arith, long, e)) in
+    let place : length (xs ++ bs) - answerLength ≡ length xs = omega (arith, long) in
+    rw (some, place) (drop-append-seam xs bs)
+
 -- ---- the invariant
 
 -- The whole is what was played so far, on whose answers the verdict is, and then the rest of the trace from here.
-pub record Going (t log : List ℕ) (last : Bool) (m₀ m : Module) (at passed n : ℕ) (v : Verdict) : Type 0 where
+pub record Going (t log : List ℕ) (last : Bool) (m₀ m : Module) (at passed n : ℕ) (v : Verdict) (ours : List ℕ) : Type 0 where
   pub done : Outcome
   pub inside : at ≤ length t
   pub few : n ≤ at
@@ -92,10 +101,11 @@ pub record Going (t log : List ℕ) (last : Bool) (m₀ m : Module) (at passed n
   pub bytes : length (done .answers) ≡ answerLength * n
   pub room : answerLength * n ≤ roomOf last t log
   pub past : passed ≡ min (answerLength * n) (length log)
+  pub latest : ours ≡ lastOf (done .answers)
   pub so-far : v ≡ verdict (done .answers) (take (answerLength * n) log)
   pub going : play m₀ t (roomOf last t log) ≡ followed done (play m (drop at t) (roomOf last t log - answerLength * n))
 
-pub starts : (t log : List ℕ) (last : Bool) (m : Module) → Going t log last m m 0 0 0 Accepted
+pub starts : (t log : List ℕ) (last : Bool) (m : Module) → Going t log last m m 0 0 0 Accepted (replicate answerLength 0)
 unfolding flatten
 starts t log last m =
     record {
@@ -107,25 +117,29 @@ starts t log last m =
       bytes = omega arith;
       room = omega arith;
       past = omega arith;
+      latest = refl;
       so-far = sym (none-right (take (answerLength * 0) log) refl);
       going = ap (play m t) (omega arith);
     }
 
-module _ (t log : List ℕ) (last : Bool) (m₀ m : Module) (at passed n : ℕ) (v : Verdict) (g : Going t log last m₀ m at passed n v) where
+module _ (t log : List ℕ) (last : Bool) (m₀ m : Module) (at passed n : ℕ) (v : Verdict) (ours : List ℕ) (g : Going t log last m₀ m at passed n v ours) where
   abbrev room : ℕ
   room = roomOf last t log - answerLength * n
 
-  abbrev left : ℕ → Walked
-  left why = record { state = m; records = n; read = at; passed = passed; verdict = v; stop = why }
+  abbrev left : Module → ℕ → Ran
+  left k why = record { walked = record { state = k; records = n; read = at; passed = passed; verdict = v; stop = why }; ours = ours }
 
   -- Nothing further is played.
-  leaves : (why : ℕ) → play m (drop at t) room ≡ stopped m why → left why ≡ walked m₀ t log last
+  leaves : (why : ℕ) → play m (drop at t) room ≡ stopped m why → left m why ≡ ran m₀ t log last
   leaves why e =
       let all : play m₀ t (roomOf last t log) ≡ followed (g .done) (stopped m why) = g .going ∙ ap (followed (g .done)) e in
-      sym (ap (walkedTo log) all
-      ∙ simp (append-nil, g .bytes, sym (g .count), sym (g .read), sym (g .past), sym (g .so-far)))
+      let answers : play m₀ t (roomOf last t log) .answers ≡ g .done .answers = ap (λ (o : Outcome). o .answers) all ∙ append-nil (g .done .answers) in
+      let told : walkedTo log (play m₀ t (roomOf last t log)) ≡ left m why .walked =
+      ap (walkedTo log) all ∙ simp (append-nil, g .bytes, sym (g .count), sym (g .read), sym (g .past), sym (g .so-far)) in
+      let given : lastOf (play m₀ t (roomOf last t log) .answers) ≡ ours = ap lastOf answers ∙ sym (g .latest) in
+      sym (λ i. record { walked = told i; ours = given i })
 
-  pub at-end : length t ≤ at → left 0 ≡ walked m₀ t log last
+  pub at-end : length t ≤ at → left m 0 ≡ ran m₀ t log last
   at-end le = leaves 0 (play-none reader m (drop at t) room (simp length-drop (omega arith)))
 
   module _ (lt : at < length t) where
@@ -134,7 +148,7 @@ module _ (t log : List ℕ) (last : Bool) (m₀ m : Module) (at passed n : ℕ) 
 
     -- Before what is no record, or is cut.
     pub at-refusal : (p : Parsed) (why : ℕ) → p ≡ parsed (take (length t - at) (drop at t)) → OneOf (1 ∷ 2 ∷ []) (tagOf P.the-type p) → why ≡ refusalOf p
-        → left why ≡ walked m₀ t log last
+        → left m why ≡ ran m₀ t log last
     at-refusal p why is keys e =
         leaves why (unroll reader m (drop at t) room some ∙ ap (turn reader play m (drop at t) room) (sym (is ∙ ap parsed (rest t at)))
         ∙ refused m (drop at t) room p keys ∙ ap (stopped m) (sym e))
@@ -148,7 +162,7 @@ module _ (t log : List ℕ) (last : Bool) (m₀ m : Module) (at passed n : ℕ) 
       moves = let r = record-within (drop at t) record-here in (r .0, omega (arith, r .1, length-drop at t))
 
       -- Before a record whose answer waits for the next part of the log.
-      pub at-full : w ≡ true → left 7 ≡ walked m₀ t log last
+      pub at-full : w ≡ true → left m 7 ≡ ran m₀ t log last
       at-full e =
           let none : room < answerLength = full last t log n passed here (g .room) (g .past) is-here (sym is-w ∙ e) in
           leaves 7 (unroll reader m (drop at t) room some ∙ ap (turn reader play m (drop at t) room) record-here ∙ simp (lt-ltb room answerLength none))
@@ -158,15 +172,17 @@ module _ (t log : List ℕ) (last : Bool) (m₀ m : Module) (at passed n : ℕ) 
         has = fits last t log at n passed here (g .few) lt (g .room) (g .past) is-here (sym is-w ∙ goes)
 
         -- Before a hold that would pass 2^64 - 1 clocks.
-        pub at-limit : s .answer .refusal ≡ 10 → left 10 ≡ walked m₀ t log last
+        pub at-limit : s .answer .refusal ≡ 10 → left (s .state) 10 ≡ ran m₀ t log last
         at-limit is-10 =
-            let over : limited m e ≡ true = eq-eqb (step m e .answer .refusal) 10 (ap (λ (s : Stepped). s .answer .refusal) (sym is-step) ∙ is-10) in
-            leaves 10 (unroll reader m (drop at t) room some ∙ ap (turn reader play m (drop at t) room) record-here ∙ simp (le-ltb room answerLength has, over))
+            let refused-10 : step m e .answer .refusal ≡ 10 = ap (λ (s : Stepped). s .answer .refusal) (sym is-step) ∙ is-10 in
+            let over : limited m e ≡ true = eq-eqb (step m e .answer .refusal) 10 refused-10 in
+            ap (λ (k : Module). left k 10) (ap (λ (s : Stepped). s .state) is-step ∙ limited-stays m e refused-10)
+            ∙ leaves 10 (unroll reader m (drop at t) room some ∙ ap (turn reader play m (drop at t) room) record-here ∙ simp (le-ltb room answerLength has, over))
 
         -- Past a record: the verdict has its answer too, and the trace goes on.
-        pub goes-on : (v′ : Verdict) → (s .answer .refusal ≡ 10 → ⊥)
-            → v′ ≡ before v (numbered n (verdict (answerBytes (s .answer)) (take (passed + here - passed) (drop passed log)))) → Going t log last m₀ (s .state) (at + size) (passed + here) (n + 1) v′
-        goes-on v′ not-10 is-v =
+        pub goes-on : (v′ : Verdict) (x : List ℕ) → (s .answer .refusal ≡ 10 → ⊥) → x ≡ answerBytes (s .answer)
+            → v′ ≡ before v (numbered n (verdict x (take (passed + here - passed) (drop passed log)))) → Going t log last m₀ (s .state) (at + size) (passed + here) (n + 1) v′ x
+        goes-on v′ x not-10 is-x is-v =
             let as-many : passed + here - passed ≡ here = omega arith in
             let y = take (passed + here - passed) (drop passed log) in
             let is-y : y ≡ take here (drop passed log) = ap (λ (j : ℕ). take j (drop passed log)) as-many in
@@ -194,8 +210,9 @@ module _ (t log : List ℕ) (last : Bool) (m₀ m : Module) (at passed n : ℕ) 
               bytes = omega (arith, g .bytes, length-append xs bs);
               room = omega (arith, has, g .room);
               past = passes log passed here n (g .past) is-here;
+              latest = is-x ∙ sym (last-added xs bs refl);
               so-far =
-                  is-v ∙ ap (λ (u : Verdict). before u (numbered n (verdict bs y))) (g .so-far)
+                  is-v ∙ ap (λ (l : List ℕ). before v (numbered n (verdict l y))) is-x ∙ ap (λ (u : Verdict). before u (numbered n (verdict bs y))) (g .so-far)
                   ∙ sym (joined xs bs both n (g .bytes)
                   ∙ ap (λ (l : List ℕ). before (verdict xs l) (numbered n (verdict bs (drop (length xs) both)))) first
                   ∙ ap (λ (l : List ℕ). before (verdict xs (take (answerLength * n) log)) (numbered n (verdict bs l))) second)

@@ -1,8 +1,9 @@
 -- Document 02, L12: the judge. What document 01 with the changes since gives is what `play` answers with room enough.
 use mathlib.Core.Bool.{Bool, cond}
 use mathlib.Core.List.{List, flatten}
-use Prim.Native.Nat.{ℕ, _*_, min}
-use lib.ListN.{length, take}
+use Prim.Native.Nat.{ℕ, _-_, _*_, min}
+use lib.Dec.{eqb}
+use lib.ListN.{length, take, drop, replicate}
 use Rattle.qsm.specs.State.{resetModule}
 use Rattle.qsm.specs.declared.state.Module.{Module}
 use Rattle.trace.specs.Trace.{answerLength}
@@ -10,6 +11,7 @@ use Rattle.trace.specs.Play.{Outcome, play}
 use Rattle.judging.specs.Verdict.{verdict}
 use Rattle.judging.specs.declared.Judged.{Judged}
 use Rattle.judging.specs.declared.Walked.{Walked}
+use Rattle.judging.specs.declared.Ran.{Ran}
 
 -- Room for the answers to any trace of so many bytes: a record has at least one.
 abbrev pub enough : List ℕ → ℕ
@@ -41,3 +43,12 @@ walkedTo log o =
 
 abbrev pub walked : Module → List ℕ → List ℕ → Bool → Walked
 walked m t log last = walkedTo log (play m t (roomOf last t log))
+
+-- The last of some answers, or zeros where there is none.
+abbrev pub lastOf : List ℕ → List ℕ
+lastOf answers = cond (eqb (length answers) 0) (replicate answerLength 0) (drop (length answers - answerLength) answers)
+
+-- The same with the model's last answer.
+abbrev pub ran : Module → List ℕ → List ℕ → Bool → Ran
+ran m t log last =
+    record { walked = walked m t log last; ours = lastOf (play m t (roomOf last t log) .answers) }

@@ -6,7 +6,7 @@ ghost use lib.Dec.{ltb};
 ghost use lib.ListN.{length};
 ghost use Rattle.trace.specs.Trace.{answerLength, answerBytes};
 ghost use Rattle.judging.specs.Verdict.{alike, verdict, numbered, before};
-ghost use Rattle.judging.specs.Judge.{judged, walked};
+ghost use Rattle.judging.specs.Judge.{judged, walked, ran};
 
 mod claims;
 pub mod field;
@@ -41,6 +41,12 @@ pub struct Walked {
     pub passed: usize,
     pub verdict: Verdict,
     pub stop: u8,
+}
+
+// A walk, and the bytes of the last of the model's answers, or zeros where it gave none.
+pub struct Ran {
+    pub walked: Walked,
+    pub ours: [u8; 18],
 }
 
 // The kind of an answer.
@@ -88,12 +94,11 @@ fn alike(x: &[u8], y: &[u8]) -> usize
     i
 }
 
-// Answer n, of which the log has the bytes y.
-fn one(n: usize, a: Answer, y: &[u8]) -> Verdict
+// Answer n, x, of which the log has the bytes y.
+fn one(n: usize, x: [u8; 18], y: &[u8]) -> Verdict
     requires { ⌜ length (now y) ≤ answerLength ⌝ }
-    ensures { λ r. ⌜ r ≡ numbered n (verdict (answerBytes a) (now (y .entry))) ⌝ }
+    ensures { λ r. ⌜ r ≡ numbered n (verdict x (now (y .entry))) ⌝ }
 {
-    let x = answer_bytes(a);
     let k = alike(&x, y);
     if k == ANSWER_LENGTH {
         return Verdict::Accepted;
@@ -105,12 +110,12 @@ fn one(n: usize, a: Answer, y: &[u8]) -> Verdict
 }
 
 // An earlier wrong answer stands.
-fn told(v: Verdict, n: usize, a: Answer, y: &[u8]) -> Verdict
+fn told(v: Verdict, n: usize, x: [u8; 18], y: &[u8]) -> Verdict
     requires { ⌜ length (now y) ≤ answerLength ⌝ }
-    ensures { λ r. ⌜ r ≡ before v (numbered n (verdict (answerBytes a) (now (y .entry)))) ⌝ }
+    ensures { λ r. ⌜ r ≡ before v (numbered n (verdict x (now (y .entry)))) ⌝ }
 {
     match v {
-        Verdict::Accepted => one(n, a, y),
+        Verdict::Accepted => one(n, x, y),
         Verdict::Wrong(_, _) => v,
     }
 }
@@ -128,69 +133,95 @@ fn waits(last: bool, here: usize) -> bool
     !last & (here < ANSWER_LENGTH)
 }
 
-// Plays a part of a trace beside the part of a log that has its answers, which may be the log's last.
-// Ruled out: a part of a log that ends taken for a missing answer; a later wrong answer over an earlier one; a trace left at a wrong answer.
-pub fn walk<'a>(m: Module, trace: &'a [u8], log: &'a [u8], last: bool) -> Walked
-    ensures { λ r. ⌜ r ≡ walked m (now (trace .entry)) (now (log .entry)) last ⌝ }
+// Plays a part of a trace beside the part of a log that has its answers, which may be the log's last. What a program plays it plays here, so
+// that the step is compiled in line.
+// Ruled out: a part of a log that ends taken for a missing answer; a later wrong answer over an earlier one; a trace left at a wrong answer;
+// the log's answer for the model's.
+pub fn run<'a>(m: Module, trace: &'a [u8], log: &'a [u8], last: bool) -> Ran
+    ensures { λ r. ⌜ r ≡ ran m (now (trace .entry)) (now (log .entry)) last ⌝ }
 {
     let mut state = m;
     let mut at: usize = 0;
     let mut passed: usize = 0;
     let mut n: usize = 0;
     let mut verdict = Verdict::Accepted;
+    let mut ours = [0u8; 18];
     while at < trace.len() {
         let p = trace::parse(&trace[at..]);
         let Parsed::Record(e, size) = p else {
             let stop = refusal_of(p);
-            return Walked {
-                state,
-                records: n,
-                read: at,
-                passed,
-                verdict,
-                stop,
+            return Ran {
+                walked: Walked {
+                    state,
+                    records: n,
+                    read: at,
+                    passed,
+                    verdict,
+                    stop,
+                },
+                ours,
             };
         };
         let here = least(ANSWER_LENGTH, log.len() - passed);
         let full = waits(last, here);
         if full {
-            return Walked {
-                state,
-                records: n,
-                read: at,
-                passed,
-                verdict,
-                stop: 7,
+            return Ran {
+                walked: Walked {
+                    state,
+                    records: n,
+                    read: at,
+                    passed,
+                    verdict,
+                    stop: 7,
+                },
+                ours,
             };
         }
         let s = qsm::event::step(state, e);
         let answer = s.answer;
+        let next = s.state;
+        // A hold that is refused 10 leaves the module as it was.
+        state = next;
         if answer.refusal == 10 {
-            return Walked {
-                state,
-                records: n,
-                read: at,
-                passed,
-                verdict,
-                stop: 10,
+            return Ran {
+                walked: Walked {
+                    state,
+                    records: n,
+                    read: at,
+                    passed,
+                    verdict,
+                    stop: 10,
+                },
+                ours,
             };
         }
         let end = passed + here;
-        verdict = told(verdict, n, answer, &log[passed..end]);
-        let next = s.state;
-        state = next;
+        ours = answer_bytes(answer);
+        verdict = told(verdict, n, ours, &log[passed..end]);
         at += size;
         passed = end;
         n += 1;
     }
-    Walked {
-        state,
-        records: n,
-        read: at,
-        passed,
-        verdict,
-        stop: 0,
+    Ran {
+        walked: Walked {
+            state,
+            records: n,
+            read: at,
+            passed,
+            verdict,
+            stop: 0,
+        },
+        ours,
     }
+}
+
+// The same without the last answer.
+// Ruled out: another module than the part leaves; bytes of the log passed that have no answer.
+pub fn walk<'a>(m: Module, trace: &'a [u8], log: &'a [u8], last: bool) -> Walked
+    ensures { λ r. ⌜ r ≡ walked m (now (trace .entry)) (now (log .entry)) last ⌝ }
+{
+    let r = run(m, trace, log, last);
+    r.walked
 }
 
 // Bytes after the last answer are a wrong answer.

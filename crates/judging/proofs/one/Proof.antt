@@ -1,11 +1,10 @@
 use denote.Ref.{now}
-use mathlib.Core.Path.{_≡_, refl, sym, ap, _∙_}
-use mathlib.Core.List.{List}
+use mathlib.Core.Path.{_≡_, sym, ap, _∙_}
 use Prim.Native.Nat.{ℕ, _+_}
 use native.Mathlib.Omega.{arith}
+use mir.Syntax.{w8}
+use borrow.Kind.Array.{eInt, good-length}
 use borrow.Author.Needs.{needs}
-use Rattle.trace.specs.Trace.{answerLength, answerBytes}
-use Rattle.text.specs.declared.difference.Field.{Field}
 use Rattle.text.specs.declared.difference.Field.the-variants.{Kind}
 use Rattle.judging.specs.Verdict.{alike, fieldAt, numbered}
 use Rattle.judging.specs.declared.Verdict.the-variants.{Wrong}
@@ -15,38 +14,26 @@ use Rattle.judging.proofs.one.Tie as tie
 
 returns : tie.Need-returns
 returns c =
-    let start = c .before .before .before .before .before .args in
-    let is : c .before .alike .result ≡ alike (answerBytes (start .a)) (now (start .y)) =
-    c .before .alike .ensures ∙ ap (λ (l : List ℕ). alike l (now (start .y))) (c .before .before .before .answer-bytes .ensures) in
-    sym (ap (numbered (start .n)) (one-right (answerBytes (start .a)) (now (start .y)) refl (search needs) (sym is ∙ c .if1 .taken)))
+    let start = c .before .before .before .before in
+    sym (ap (numbered (start .args .n)) (one-right (start .args .t2) (now (start .args .y)) (good-length (eInt w8) 18 (start .args .t2) _ (start .good .1 .0)) (search needs) (sym (c .before .alike .ensures) ∙ c .if1 .taken)))
 
 returns-2 : tie.Need-returns-2
 returns-2 c =
-    let start = c .before .before .before .before .before .before .args in
-    let is : c .before .before .alike .result ≡ alike (answerBytes (start .a)) (now (start .y)) =
-    c .before .before .alike .ensures ∙ ap (λ (l : List ℕ). alike l (now (start .y))) (c .before .before .before .before .answer-bytes .ensures) in
-    let here : start .n + 0 ≡ start .n = omega arith in
-    sym (ap (numbered (start .n)) (one-cut (answerBytes (start .a)) (now (start .y)) refl (search needs) (λ e. c .before .if1 .left (is ∙ e)) (c .if2 .taken))
+    let start = c .before .before .before .before .before in
+    let here : start .args .n + 0 ≡ start .args .n = omega arith in
+    sym (ap (numbered (start .args .n)) (one-cut (start .args .t2) (now (start .args .y)) (good-length (eInt w8) 18 (start .args .t2) _ (start .good .1 .0)) (search needs) (λ e. c .before .if1 .left (c .before .before .alike .ensures ∙ e)) (c .if2 .taken))
     ∙ ap (λ (k : ℕ). Wrong k Kind) here)
 
 returns-3 : tie.Need-returns-3
 returns-3 c =
-    let start = c .before .before .before .before .before .before .before .args in
-    let is : c .before .before .before .alike .result ≡ alike (answerBytes (start .a)) (now (start .y)) =
-    c .before .before .before .alike .ensures ∙ ap (λ (l : List ℕ). alike l (now (start .y))) (c .before .before .before .before .before .answer-bytes .ensures) in
-    let here : start .n + 0 ≡ start .n = omega arith in
-    sym (ap (numbered (start .n)) (one-field (answerBytes (start .a)) (now (start .y)) refl (search needs) (λ e. c .before .before .if1 .left (is ∙ e)) (c .before .if2 .left))
-    ∙ ap (λ (k : ℕ). Wrong k (fieldAt (alike (answerBytes (start .a)) (now (start .y))))) here
-    ∙ ap (Wrong (start .n)) (ap fieldAt (sym is) ∙ sym (c .field-at .ensures)))
+    let start = c .before .before .before .before .before .before in
+    let is : c .before .before .before .alike .result ≡ alike (start .args .t2) (now (start .args .y)) = c .before .before .before .alike .ensures in
+    let here : start .args .n + 0 ≡ start .args .n = omega arith in
+    sym (ap (numbered (start .args .n)) (one-field (start .args .t2) (now (start .args .y)) (good-length (eInt w8) 18 (start .args .t2) _ (start .good .1 .0)) (search needs) (λ e. c .before .before .if1 .left (is ∙ e)) (c .before .if2 .left))
+    ∙ ap (λ (k : ℕ). Wrong k (fieldAt (alike (start .args .t2) (now (start .args .y))))) here
+    ∙ ap (Wrong (start .args .n)) (ap fieldAt (sym is) ∙ sym (c .field-at .ensures)))
 
 pub one-spec : {M : Type 1} → statement M
 one-spec =
     tie.close
-    (tie.spec
-    (λ c κs. search needs)
-    (λ c. search needs)
-    (λ c κs. search needs)
-    returns
-    returns-2
-    (λ c κs. search needs)
-    returns-3)
+    (tie.spec (λ c. search needs) (λ c κs. search needs) returns returns-2 (λ c κs. search needs) returns-3)
