@@ -1,6 +1,4 @@
 // The first wrong answer as people read it: its number and field, its record, what the chip gives and what the log says.
-ghost use mathlib.Core.Path.{_≡_};
-ghost use lib.ListN.{length};
 use files::output::write_first;
 use files::pieces::least;
 use libc::STDOUT_FILENO;
@@ -71,92 +69,20 @@ pub fn show(n: u64, f: Field, rest: &[u8], chip: &[u8], written: usize, log: &[u
     told & record & gives & says
 }
 
-// One record played by itself: the module after it, its bytes, and its answer, of which so many bytes were written.
-struct One {
-    state: Module,
-    read: usize,
-    answer: [u8; 18],
-    written: usize,
+// The bytes of k answers, or all of so many.
+fn bytes_of(k: usize, all: usize) -> usize {
+    if k <= all / 18 { k * 18 } else { all }
 }
 
-// The bytes of the record at the start of a rest of the trace; none where there is no record.
-fn record_size(rest: &[u8]) -> usize {
-    let p = trace::parse(rest);
-    let Parsed::Record(_, size) = p else {
-        return 0;
-    };
-    size
-}
-
-// An answer has 18 bytes.
-fn answer_size(records: usize) -> usize {
-    if records == 0 { 0 } else { 18 }
-}
-
-fn one_record(m: Module, rest: &[u8]) -> One
-    ensures { λ r. ⌜ length (r .answer) ≡ 18 ⌝ }
-{
-    let size = least(record_size(rest), rest.len());
-    let r = judging::run(m, &rest[0..size], b"", true);
-    let w = r.walked;
-    let state = w.state;
-    let answer = r.ours;
-    One {
-        state,
-        read: w.read,
-        answer,
-        written: answer_size(w.records),
-    }
-}
-
-// Where record k of a piece stands in it, where its answer stands in the piece of the log, and the module before it.
-struct Reached {
-    state: Module,
-    place: usize,
-    answer: usize,
-}
-
-fn further(at: usize, n: usize, end: usize) -> usize {
-    let from = least(at, end);
-    if n < end - from {
-        return from + n;
-    }
-    end
-}
-
-fn past_one(r: Reached, t: &[u8], length: usize) -> Reached {
-    let m = r.state;
-    let from = least(r.place, t.len());
-    let o = one_record(m, &t[from..]);
-    let state = o.state;
-    Reached {
-        state,
-        place: further(from, o.read, t.len()),
-        answer: further(r.answer, 18, length),
-    }
-}
-
-fn reach(m: Module, t: &[u8], length: usize, k: usize) -> Reached {
-    let mut r = Reached {
-        state: m,
-        place: 0,
-        answer: 0,
-    };
-    let mut left = k;
-    while left > 0 {
-        r = past_one(r, t, length);
-        left -= 1;
-    }
-    r
-}
-
-// Answer n, which is answer k of these pieces, played from m on.
+// Answer n, which is answer k of these pieces, played from m on: beside the k answers before it, and then with room for one.
 pub fn show_wrong<'a>(m: Module, t: &'a [u8], l: &'a [u8], n: u64, k: usize, f: Field) -> bool {
-    let r = reach(m, t, l.len(), k);
-    let from = least(r.place, t.len());
-    let at = least(r.answer, l.len());
-    let before = r.state;
-    let o = one_record(before, &t[from..]);
-    let answer = o.answer;
-    show(n, f, &t[from..], &answer, o.written, &l[at..])
+    let at = least(bytes_of(k, l.len()), l.len());
+    let w = judging::walk(m, t, &l[0..at], false);
+    let from = least(w.read, t.len());
+    let before = w.state;
+    let room = [0u8; 18];
+    let r = judging::run(before, &t[from..], &room, false);
+    let ours = r.ours;
+    let written = bytes_of(r.walked.records, 18);
+    show(n, f, &t[from..], &ours, written, &l[at..])
 }
