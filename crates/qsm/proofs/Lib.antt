@@ -17,3 +17,12 @@ pub mod Marks
 pub mod StatusBytes
 pub mod SeenClauses
 pub mod Witness
+pub mod ResetReads
+pub mod Masks
+pub mod Words
+pub mod ReadsBack
+pub mod Accepts
+pub mod RamReads
+pub mod Sizes
+pub mod Elsewhere
+pub mod Registers

@@ -1,10 +1,11 @@
--- What a host sees of pins, requests and marks, over every module and every event: document 01's sentences, beside the definitions that
--- compute them.
+-- What a host sees of pins, requests, marks and registers, over every module and every event: document 01's sentences, beside the
+-- definitions that compute them.
 use Rattle.qsm.specs.Event.{step}
 use Rattle.qsm.specs.StatusFlags.{Flag}
 use Rattle.qsm.specs.RequestClauses.{RequestClauses}
 use Rattle.qsm.specs.PinClauses.{PinClauses, LastInput}
 use Rattle.qsm.specs.SeenClauses.{SeenClauses}
+use Rattle.qsm.specs.Registers.{Registers}
 use Rattle.qsm.specs.Witness.{Met}
 use Rattle.qsm.specs.declared.state.Module.{Module}
 use Rattle.qsm.specs.declared.event.Access.{Access}
@@ -15,4 +16,5 @@ pub record Clauses : Type 0 where
   pub pins : (m : Module) (e : Event) → PinClauses (step m e .state) (step m e .answer)
   pub last-input : LastInput
   pub seen : (m : Module) (a : Access) (f : Flag) → SeenClauses m a f
+  pub registers : Registers
   pub met : Met

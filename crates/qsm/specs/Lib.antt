@@ -17,5 +17,6 @@ pub mod StatusFlags
 pub mod RequestClauses
 pub mod PinClauses
 pub mod SeenClauses
+pub mod Registers
 pub mod Clauses
 pub mod Witness
