@@ -1,7 +1,7 @@
 -- Refusals 1 and 2 and privilege: the module's tests of words are the table's tests of bytes. Assumes nothing.
 use mathlib.Core.Path.{_≡_, refl, sym, ap, _∙_}
 use mathlib.Core.Bool.{Bool, true, false, not, _&&_, _||_}
-use Prim.Native.Nat.{ℕ, _+_, _/_, _%_, _^_, _<_, _≤_}
+use Prim.Native.Nat.{ℕ, _+_, _/_, _%_, _<_, _≤_}
 use native.Mathlib.Omega.{arith}
 use lib.Dec.{eqb, ltb, leb}
 use borrow.Author.Tests.{le-leb, lt-leb, ltb-true, ltb-false}
@@ -24,11 +24,11 @@ not-both : (e f x y : Bool) → x ≡ not e → y ≡ not f → x || y ≡ not (
 not-both true f x y h k = simp (h, k)
 not-both false f x y h k = simp h
 
-pub malformed-is : (w o v : ℕ) → v < 2 ^ 32 → malformed w o v ≡ not (shaped w o && fits w v)
-malformed-is w o v small =
+pub malformed-is : (w o v : ℕ) → malformed w o v ≡ not (shaped w o && fits w v)
+malformed-is w o v =
     widths (λ w. malformed w o v ≡ not (shaped w o && fits w v)) w (at-or-above 256 v)
     (not-both (eqb (o % 2) 0) (ltb v 65536) (eqb (o % 2) 1) (leb 65536 v) (odd o) (at-or-above 65536 v))
-    (not-both (eqb (o % 2) 0) true (eqb (o % 2) 1) (leb (256 ^ 4) v) (odd o) (lt-leb (256 ^ 4) v small))
+    (not-both (eqb (o % 2) 0) (ltb v 4294967296) (eqb (o % 2) 1) (leb 4294967296 v) (odd o) (at-or-above 4294967296 v))
     (λ a b c. simp (a, b, c))
 
 -- ---- the map by bytes

@@ -12,6 +12,7 @@ use Rattle.qsm.specs.Count.{limited}
 use Rattle.qsm.proofs.Limit.{hold-if}
 use Rattle.qsm.specs.declared.state.Module.{Module}
 use Rattle.qsm.specs.declared.event.Access.{Access}
+use Rattle.qsm.specs.declared.event.Done.{Done}
 use Rattle.qsm.specs.declared.event.Event.{Event}
 use Rattle.qsm.specs.declared.event.Event.the-variants.{Reset, Hold}
 use Rattle.qsm.specs.declared.event.Event.the-variants as event
@@ -19,17 +20,23 @@ use Rattle.trace.specs.Trace.{byteAt, wordAt, longAt, whole, byKind}
 use Rattle.trace.specs.declared.Parsed.{Parsed}
 use Rattle.trace.specs.declared.Parsed.the-variants.{Record, Unknown, Cut}
 use Rattle.rules.specs.Refusals.{pastLimit}
-use Rattle.rules.specs.Demand1.{gives, Refusal10}
+use Rattle.rules.specs.Demand1.{Refusal10}
 use Rattle.rules.proofs.Tests.{split}
-use Rattle.rules.proofs.Accesses.{answers}
+use Rattle.rules.proofs.Accesses.{answered-access}
 
-hold-gives : (m : Module) (pins : ℕ) (rxd : Bool) (n : ℕ) → gives 10 (does m (Hold pins rxd n)) ≡ passes m n
-hold-gives m pins rxd n = hold-if (λ d. gives 10 d ≡ passes m n) m pins rxd n (λ h. sym h) (λ h. sym h)
+hold-gives : (m : Module) (pins : ℕ) (rxd : Bool) (n : ℕ) → eqb (does m (Hold pins rxd n) .refusal) 10 ≡ passes m n
+hold-gives m pins rxd n = hold-if (λ d. eqb (d .refusal) 10 ≡ passes m n) m pins rxd n (λ h. sym h) (λ h. sym h)
+
+hold-leaves : (m : Module) (pins : ℕ) (rxd : Bool) (n : ℕ) → eqb (does m (Hold pins rxd n) .refusal) 10 ≡ true → does m (Hold pins rxd n) ≡ done m 10 0
+hold-leaves m pins rxd n = hold-if (λ d. eqb (d .refusal) 10 ≡ true → d ≡ done m 10 0) m pins rxd n (λ h k. refl) (λ h k. cc)
 
 pub refusal10 : Refusal10
+unfolding step answerOf
 refusal10 = (
   hold-gives,
-  (λ m pins rxd n. hold-if (λ d. gives 10 d ≡ true → d ≡ done m 10 0) m pins rxd n (λ h k. refl) (λ h k. cc)),
+  (λ m pins rxd n h.
+      let is : does m (Hold pins rxd n) ≡ done m 10 0 = hold-leaves m pins rxd n h in
+      (ap (λ (d : Done). d .state) is, ap (λ (d : Done). d .refusal) is, ap (λ (d : Done). d .value) is)),
 )
 
 -- ---- by the kind of a record
@@ -45,8 +52,8 @@ module _ (m : Module) where
   reset-free = refl
 
   pub access-free : (a : Access) → limited m (event.Access a) ≡ false
-  unfolding step answerOf
-  access-free a = ne-eqb (does m (event.Access a) .refusal) 10 (λ e. omega (arith, e, answers .2 m a))
+  unfolding step does answerOf
+  access-free a = ne-eqb (does m (event.Access a) .refusal) 10 (λ e. omega (arith, e, answered-access m a))
 
   hold-limited : (pins : ℕ) (rxd : Bool) (n : ℕ) → limited m (Hold pins rxd n) ≡ passes m n
   unfolding step answerOf

@@ -1,25 +1,25 @@
 -- Demand 1, law by law: refusals 5 to 7, 10 of a record, and the end of a trace. Assumes nothing.
-use mathlib.Core.Path.{_≡_, refl, sym, ap, subst, _∙_}
+use mathlib.Core.Path.{_≡_, refl, sym, ap, ap₂, subst, _∙_}
 use mathlib.Core.Bool.{Bool, true, false, cond, not, _&&_, _||_}
 use mathlib.Core.List.{List, [], _++_, append-nil}
 use Prim.Native.Nat.{ℕ, suc, _+_, _-_, _<_}
 use native.Mathlib.Omega.{arith}
 use lib.Dec.{eqb, ltb}
-use lib.ListN.{length, take, drop, length-append}
+use lib.ListN.{length, drop, length-append}
 use borrow.Author.Tests.{ne-eqb, eqb-true, eqb-false, ltb-true, ltb-false}
 use Rattle.qsm.specs.Event.{step}
 use Rattle.qsm.specs.Count.{limited}
 use Rattle.qsm.specs.declared.state.Module.{Module}
 use Rattle.qsm.specs.declared.event.Event.{Event}
 use Rattle.trace.specs.Trace.{parsed, byteAt, byKind, answerLength, reader}
-use Rattle.trace.specs.Play.{Outcome, stopped, answered, followed, turn, play}
+use Rattle.trace.specs.Play.{Outcome, stopped, followed, turn, play}
 use Rattle.trace.specs.declared.Parsed.{Parsed}
 use Rattle.trace.specs.declared.Parsed.the-variants.{Record, Unknown, Cut}
 use Rattle.trace.proofs.Playing.{unroll, play-none, one-on}
-use Rattle.trace.proofs.Laws.{answers-fit, resumes}
+use Rattle.trace.proofs.Laws.{answers-fit, bytes-each, resumes}
 use Rattle.trace.specs.Laws.{unknown, cut, recordLength}
-use Rattle.rules.specs.Demand1.{Refusal5, Refusal6, Refusal7, Refusal10OfRecord, Ends, rest, left, over}
-use Rattle.rules.specs.Refusals.{pastLimit}
+use Rattle.rules.specs.Demand1.{Refusal5, Refusal6, Refusal7, Refusal10OfRecord, Ends, RecordByRecord, Output, rest, left, over, stopsHere, number, stoppedWith, answeredFirst}
+use Rattle.rules.specs.Refusals.{pastLimit, eventAt}
 use Rattle.rules.proofs.Tests.{absurd-bool}
 use Rattle.rules.proofs.Limits.{limited-is}
 
@@ -52,13 +52,16 @@ is-cut false false false true l n e f g h i pos k less = rw less
 is-cut false false false false true n e f g h i pos k less = rw less
 is-cut false false false false false n e f g h i pos k less = absurd-bool (sym k)
 
+abbrev eventBy : Bool → Bool → Bool → Bool → Event → Event → Event → Event → Event → Event
+eventBy a b c d e f g h i = cond a e (cond b f (cond c g (cond d h i)))
+
 is-whole : (a b c d l : Bool) (n : ℕ) (e f g h i : Event) → not (a || b || c || d || l) ≡ false →
-    ltb n (lengthBy a b c d) ≡ false → (x : Event) × (chain a b c d l n e f g h i ≡ Record x (lengthBy a b c d))
-is-whole true b c d l n e f g h i k all = (e, refl)
-is-whole false true c d l n e f g h i k all = (f, rw all)
-is-whole false false true d l n e f g h i k all = (g, rw all)
-is-whole false false false true l n e f g h i k all = (h, rw all)
-is-whole false false false false true n e f g h i k all = (i, rw all)
+    ltb n (lengthBy a b c d) ≡ false → chain a b c d l n e f g h i ≡ Record (eventBy a b c d e f g h i) (lengthBy a b c d)
+is-whole true b c d l n e f g h i k all = refl
+is-whole false true c d l n e f g h i k all = rw all
+is-whole false false true d l n e f g h i k all = rw all
+is-whole false false false true l n e f g h i k all = rw all
+is-whole false false false false true n e f g h i k all = rw all
 is-whole false false false false false n e f g h i k all = absurd-bool (sym k)
 
 -- A trace that isn't over is parsed by its kind.
@@ -73,49 +76,49 @@ cut-is t pos h k =
     begun t pos
     ∙ is-cut (eqb (byteAt t 0) 1) (eqb (byteAt t 0) 2) (eqb (byteAt t 0) 3) (eqb (byteAt t 0) 4) (eqb (byteAt t 0) 5) (length t) _ _ _ _ _ pos h k
 
-whole-is : (t : List ℕ) → 0 < length t → unknown t ≡ false → cut t ≡ false →
-    (e : Event) × (parsed t ≡ Record e (recordLength t))
+whole-is : (t : List ℕ) → 0 < length t → unknown t ≡ false → cut t ≡ false → parsed t ≡ Record (eventAt t) (recordLength t)
 whole-is t pos h k =
-    let w = is-whole (eqb (byteAt t 0) 1) (eqb (byteAt t 0) 2) (eqb (byteAt t 0) 3) (eqb (byteAt t 0) 4) (eqb (byteAt t 0) 5) (length t) _ _ _ _ _ h k in
-    (w .0, begun t pos ∙ w .1)
-
--- What stops a trace, by the tests of its rest.
-abbrev Stopping : ℕ → Bool → Bool → Bool → Bool → Bool → Type 0
-Stopping stop over unknown cut full past =
-    (eqb stop 5 ≡ not over && unknown) × (eqb stop 6 ≡ not over && not unknown && cut)
-    × (eqb stop 7 ≡ not over && not unknown && not cut && full) × (eqb stop 0 ≡ over)
-    × (eqb stop 10 ≡ not over && not unknown && not cut && not full && past)
+    begun t pos
+    ∙ is-whole (eqb (byteAt t 0) 1) (eqb (byteAt t 0) 2) (eqb (byteAt t 0) 3) (eqb (byteAt t 0) 4) (eqb (byteAt t 0) 5) (length t) _ _ _ _ _ h k
 
 some : (t : List ℕ) → over t ≡ false → 0 < length t
 some t h = let ne : length t ≡ 0 → ⊥ = eqb-false (length t) 0 h in omega (arith, ne)
 
+-- What comes of a trace, by the tests of its beginning.
+module _ (m : Module) (t : List ℕ) (room : ℕ) where
+  turned : over t ≡ false → (p : Parsed) → parsed t ≡ p → play m t room ≡ turn reader play m t room p
+  turned io p is = unroll reader m t room (some t io) ∙ ap (turn reader play m t room) is
+
+  by-tests : (o u c f p : Bool) → over t ≡ o → unknown t ≡ u → cut t ≡ c → ltb room 18 ≡ f → pastLimit m t ≡ p →
+      play m t room ≡ cond (o || u || c || f || p) (stoppedWith (cond o 0 (cond u 5 (cond c 6 (cond f 7 10)))) m) (answeredFirst m t room)
+  by-tests true u c f p io iu ic is ip = play-none reader m t room (eqb-true (length t) 0 io)
+  by-tests false true c f p io iu ic is ip = turned io Unknown (unknown-is t (some t io) iu)
+  by-tests false false true f p io iu ic is ip = turned io Cut (cut-is t (some t io) iu ic)
+  by-tests false false false true p io iu ic is ip =
+      let full : turn reader play m t room (Record (eventAt t) (recordLength t)) ≡ stopped m 7 = simp is in
+      turned io _ (whole-is t (some t io) iu ic) ∙ full
+  by-tests false false false false true io iu ic is ip =
+      let w = whole-is t (some t io) iu ic in
+      let past : limited m (eventAt t) ≡ true = limited-is m t (eventAt t) (recordLength t) (sym (begun t (some t io)) ∙ w) ∙ ip in
+      let over : turn reader play m t room (Record (eventAt t) (recordLength t)) ≡ stopped m 10 = simp (is, past) in
+      turned io _ w ∙ over
+  by-tests false false false false false io iu ic is ip =
+      let w = whole-is t (some t io) iu ic in
+      let free : limited m (eventAt t) ≡ false = limited-is m t (eventAt t) (recordLength t) (sym (begun t (some t io)) ∙ w) ∙ ip in
+      one-on reader m t room (eventAt t) (recordLength t) w (ltb-false room answerLength is) free
+
+pub record-by-record : RecordByRecord
+record-by-record m t room = by-tests m t room (over t) (unknown t) (cut t) (ltb room 18) (pastLimit m t) refl refl refl refl refl
+
 -- A trace of which no record is answered stops before the first.
-first-stop : (m : Module) (t : List ℕ) (room : ℕ) (o u c f p : Bool) → over t ≡ o → unknown t ≡ u → cut t ≡ c →
-    ltb room answerLength ≡ f → pastLimit m t ≡ p → length (play m t room .records) ≡ 0 → Stopping (play m t room .stop) o u c f p
-first-stop m t room true u c f p io iu ic is ip none =
-    subst (λ (q : Outcome). Stopping (q .stop) true u c f p) (sym (play-none reader m t room (eqb-true (length t) 0 io))) (refl, refl, refl, refl, refl)
-first-stop m t room false true c f p io iu ic is ip none =
-    subst (λ (q : Outcome). Stopping (q .stop) false true c f p)
-    (sym (unroll reader m t room (some t io) ∙ ap (turn reader play m t room) (unknown-is t (some t io) iu))) (refl, refl, refl, refl, refl)
-first-stop m t room false false true f p io iu ic is ip none =
-    subst (λ (q : Outcome). Stopping (q .stop) false false true f p)
-    (sym (unroll reader m t room (some t io) ∙ ap (turn reader play m t room) (cut-is t (some t io) iu ic))) (refl, refl, refl, refl, refl)
-first-stop m t room false false false true p io iu ic is ip none =
-    let full : turn reader play m t room (Record (whole-is t (some t io) iu ic .0) (recordLength t)) ≡ stopped m 7 = simp is in
-    subst (λ (q : Outcome). Stopping (q .stop) false false false true p)
-    (sym (unroll reader m t room (some t io) ∙ ap (turn reader play m t room) (whole-is t (some t io) iu ic .1) ∙ full)) (refl, refl, refl, refl, refl)
-first-stop m t room false false false false true io iu ic is ip none =
-    let w = whole-is t (some t io) iu ic in
-    let past : limited m (w .0) ≡ true = limited-is m t (w .0) (recordLength t) (sym (begun t (some t io)) ∙ w .1) ∙ ip in
-    let over : turn reader play m t room (Record (w .0) (recordLength t)) ≡ stopped m 10 = simp (is, past) in
-    subst (λ (q : Outcome). Stopping (q .stop) false false false false true)
-    (sym (unroll reader m t room (some t io) ∙ ap (turn reader play m t room) (w .1) ∙ over)) (refl, refl, refl, refl, refl)
-first-stop m t room false false false false false io iu ic is ip none =
-    let w = whole-is t (some t io) iu ic in
-    let free : limited m (w .0) ≡ false = limited-is m t (w .0) (recordLength t) (sym (begun t (some t io)) ∙ w .1) ∙ ip in
-    let one : play m t room ≡ followed (answered (step m (w .0)) (take (recordLength t) t)) (play (step m (w .0) .state) (drop (recordLength t) t) (room - answerLength))
-    = one-on reader m t room (w .0) (recordLength t) (w .1) (ltb-false room answerLength is) free in
-    let more : length (play m t room .records) ≡ suc (length (play (step m (w .0) .state) (drop (recordLength t) t) (room - answerLength) .records))
+first-stop : (m : Module) (t : List ℕ) (room : ℕ) (b : Bool) → stopsHere m t room ≡ b → length (play m t room .records) ≡ 0 →
+    (b ≡ true) × (play m t room .stop ≡ number t room)
+first-stop m t room true is none =
+    let one : play m t room ≡ stoppedWith (number t room) m = subst (λ (b : Bool). play m t room ≡ cond b (stoppedWith (number t room) m) (answeredFirst m t room)) is (record-by-record m t room) in
+    (refl, ap (λ (q : Outcome). q .stop) one)
+first-stop m t room false is none =
+    let one : play m t room ≡ answeredFirst m t room = subst (λ (b : Bool). play m t room ≡ cond b (stoppedWith (number t room) m) (answeredFirst m t room)) is (record-by-record m t room) in
+    let more : length (play m t room .records) ≡ suc (length (play (step m (eventAt t) .state) (drop (recordLength t) t) (room - 18) .records))
     = ap (λ (q : Outcome). length (q .records)) one in
     absurd (omega (arith, none, more))
 
@@ -129,19 +132,40 @@ stands m t room =
     ∙ resumes m t [] room (left m t room)
     ∙ ap (λ (l : List ℕ). followed (play m t room) (play (play m t room .state) l (left m t room))) (append-nil (rest m t room))
 
-stopping : (m : Module) (t : List ℕ) (room : ℕ) →
-    Stopping (play m t room .stop) (over (rest m t room)) (unknown (rest m t room)) (cut (rest m t room)) (ltb (left m t room) answerLength)
-    (pastLimit (play m t room .state) (rest m t room))
-stopping m t room =
+pub ends : Ends
+ends m t room =
     let p : Outcome = play (play m t room .state) (rest m t room) (left m t room) in
     let long : length (play m t room .records) ≡ length (play m t room .records ++ p .records)
     = ap (λ (q : Outcome). length (q .records)) (stands m t room) in
     let none : length (p .records) ≡ 0 = omega (arith, long, length-append (play m t room .records) (p .records)) in
+    let here = first-stop (play m t room .state) (rest m t room) (left m t room) _ refl none in
+    (here .0, ap (λ (q : Outcome). q .stop) (stands m t room) ∙ here .1)
+
+-- What stops a trace, by the tests of its rest.
+abbrev Stopping : ℕ → Bool → Bool → Bool → Bool → Bool → Type 0
+Stopping stop over unknown cut full past =
+    (eqb stop 5 ≡ not over && unknown) × (eqb stop 6 ≡ not over && not unknown && cut)
+    × (eqb stop 7 ≡ not over && not unknown && not cut && full)
+    × (eqb stop 10 ≡ not over && not unknown && not cut && not full && past)
+
+numbered : (o u c f p : Bool) → o || u || c || f || p ≡ true → Stopping (cond o 0 (cond u 5 (cond c 6 (cond f 7 10)))) o u c f p
+numbered true u c f p h = (refl, refl, refl, refl)
+numbered false true c f p h = (refl, refl, refl, refl)
+numbered false false true f p h = (refl, refl, refl, refl)
+numbered false false false true p h = (refl, refl, refl, refl)
+numbered false false false false true h = (refl, refl, refl, refl)
+numbered false false false false false h = absurd-bool h
+
+stopping : (m : Module) (t : List ℕ) (room : ℕ) →
+    Stopping (play m t room .stop) (over (rest m t room)) (unknown (rest m t room)) (cut (rest m t room)) (ltb (left m t room) 18)
+    (pastLimit (play m t room .state) (rest m t room))
+stopping m t room =
     subst
-    (λ (k : ℕ). Stopping k (over (rest m t room)) (unknown (rest m t room)) (cut (rest m t room)) (ltb (left m t room) answerLength)
+    (λ (k : ℕ). Stopping k (over (rest m t room)) (unknown (rest m t room)) (cut (rest m t room)) (ltb (left m t room) 18)
     (pastLimit (play m t room .state) (rest m t room)))
-    (sym (ap (λ (q : Outcome). q .stop) (stands m t room)))
-    (first-stop (play m t room .state) (rest m t room) (left m t room) _ _ _ _ _ refl refl refl refl refl none)
+    (sym (ends m t room .1))
+    (numbered (over (rest m t room)) (unknown (rest m t room)) (cut (rest m t room)) (ltb (left m t room) 18)
+    (pastLimit (play m t room .state) (rest m t room)) (ends m t room .0))
 
 pub refusal5 : Refusal5
 refusal5 m t room = stopping m t room .0
@@ -152,8 +176,24 @@ refusal6 m t room = stopping m t room .1
 pub refusal7 : Refusal7
 refusal7 m t room = stopping m t room .2
 
-pub ends : Ends
-ends m t room = stopping m t room .3
-
 pub refusal10-of-record : Refusal10OfRecord
-refusal10-of-record m t room = stopping m t room .4
+refusal10-of-record m t room = stopping m t room .3
+
+-- ---- the lent output
+
+pub output : Output
+output m t lent r out p =
+    let o : Outcome = play m t (length lent) in
+    let written : r .written ≡ length (o .answers) = p .written ∙ sym (bytes-each m t (length lent)) in
+    record {
+      state = p .state;
+      stop = p .stop;
+      bytes = written;
+      stands = p .output;
+      nothing =
+          λ h.
+          let one : o ≡ stoppedWith (number t (length lent)) m =
+          subst (λ (b : Bool). o ≡ cond b (stoppedWith (number t (length lent)) m) (answeredFirst m t (length lent))) h (record-by-record m t (length lent)) in
+          let none : r .written ≡ 0 = written ∙ ap (λ (q : Outcome). length (q .answers)) one in
+          (p .state ∙ ap (λ (q : Outcome). q .state) one, none, p .output ∙ ap₂ (λ (q : Outcome) (k : ℕ). q .answers ++ drop k lent) one none);
+    }

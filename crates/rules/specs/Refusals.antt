@@ -1,5 +1,5 @@
--- Document 01, Seven refusals: the table's conditions on an access in its own words; and 10 (02, L9) of a record. The other conditions on a record
--- are among the laws of a trace.
+-- Document 01, Seven refusals: the table's conditions on an access in its own words; and 10 (02, L9) of a record, with the event that a record
+-- is. The other conditions on a record are among the laws of a trace.
 use mathlib.Core.Bool.{Bool, true, false, cond, not, _&&_, _||_}
 use mathlib.Core.List.{List}
 use Prim.Native.Nat.{ℕ, zero, suc, _+_, _-_, _/_, _%_, _^_}
@@ -12,6 +12,10 @@ use Rattle.qsm.specs.Map.{from, decode}
 use Rattle.qsm.specs.Word.{put}
 use Rattle.qsm.specs.Lanes.{upperLane, lowerLane}
 use Rattle.qsm.specs.declared.state.Module.{Module}
+use Rattle.qsm.specs.declared.event.Access.the-variants.{Read, Write}
+use Rattle.qsm.specs.declared.event.Event.{Event}
+use Rattle.qsm.specs.declared.event.Event.the-variants.{Reset, Hold}
+use Rattle.qsm.specs.declared.event.Event.the-variants as event
 use Rattle.trace.specs.Trace.{byteAt, wordAt, longAt}
 
 -- Some byte touched, of so many from an offset on, is one of these.
@@ -104,3 +108,13 @@ abbrev pub pastLimit : Module → List ℕ → Bool
 pastLimit m t =
     cond (eqb (byteAt t 0) 2) (ltb (2 ^ 64 - 1) (m .clock + wordAt t 3))
     (cond (eqb (byteAt t 0) 5) (ltb (2 ^ 64 - 1) (m .clock + longAt t 3)) false)
+
+-- The event of the record at the start of a trace, of a known kind and whole: 01 reset; 02 hold: pins, RXD (nonzero is one), clocks (2);
+-- 03 read: width with bit 7 for supervisor, offset (2); 04 write: width likewise, offset (2), value (4); 05 hold with clocks (4).
+abbrev pub eventAt : List ℕ → Event
+eventAt t =
+    cond (eqb (byteAt t 0) 1) Reset
+    (cond (eqb (byteAt t 0) 2) (Hold (byteAt t 1) (not (eqb (byteAt t 2) 0)) (wordAt t 3))
+    (cond (eqb (byteAt t 0) 3) (event.Access (Read (leb 128 (byteAt t 1)) (byteAt t 1 % 128) (wordAt t 2)))
+    (cond (eqb (byteAt t 0) 4) (event.Access (Write (leb 128 (byteAt t 1)) (byteAt t 1 % 128) (wordAt t 2) (longAt t 4)))
+    (Hold (byteAt t 1) (not (eqb (byteAt t 2) 0)) (longAt t 3)))))
