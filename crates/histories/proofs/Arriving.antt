@@ -20,7 +20,7 @@ use Rattle.sci.proofs.Wires as half
 use Rattle.qsm.specs.State.{resetModule}
 use Rattle.qsm.specs.declared.state.Module.{Module}
 use Rattle.histories.specs.History.{run}
-use Rattle.histories.specs.Demand2.{Two, halves, line, clock, play, clocksIn, Frame, begun, ended, period, width, Begins, Sends, Received, Arrives, Waits, Word, AllSent, AllRead, AllReceived, ArriveInTurn, BeginsAtOne}
+use Rattle.histories.specs.Demand2.{Two, halves, line, clock, play, clocksIn, Frame, begun, ended, period, width, Begins, Sends, Received, Waits, Word, AllSent, AllRead, AllReceived, ArriveInTurn, BeginsAtOne}
 use Rattle.histories.proofs.Lifted.{all, from-reset}
 use Rattle.histories.proofs.Pin.{line-driven}
 use Rattle.histories.proofs.Joined.{Plain, project, clock-halves, project-steps, project-unchanged, project-rests, project-clocks, rests-plain, Drives, drives-plain}
@@ -102,9 +102,6 @@ module _ (f : Frame) (q : Two) (d : Sends f q) where
       (λ (w : Wired).
       Delivered (dataBits (q .sender .sci .sccr1) (q .sender .sci .transmitter .scdr) % 2 ^ width q) (hearing (w .receiver)))
       at-ended r
-
-pub arrives : Arrives
-arrives q f d m = received f q d (half.arrives (halves q) (onWire f q) (sends f q d) (matches f q d m))
 
 pub waits : Waits
 waits q es m u r =

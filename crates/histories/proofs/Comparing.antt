@@ -38,6 +38,8 @@ use Rattle.histories.proofs.Lifted.{all, all-ops, all-unbroken, reset-s
 use Rattle.histories.proofs.Period.{Timed, no-sample}
 use Rattle.histories.proofs.Clocked.{period, samples-append}
 use Rattle.histories.proofs.Enough.{enough}
+use Rattle.histories.proofs.Answering.{fresh-answered}
+use Rattle.histories.proofs.Delivering.{delivered}
 use Rattle.histories.proofs.Giving.{eventsFor, Gives, gives}
 
 -- SCCR0 and SCCR1 written as words while the serial half isn't active.
@@ -205,6 +207,7 @@ module _ (b c : ℕ) (l : suc b < 8192) (given : List Op) (room : (resyncSamples
         waited = waited;
         later = eventsFor (suc b) given;
         compared = compared;
+        exactly = ap samplesIn (waits .gives);
         rate = omega (arith, is-enabled .rate, l, e);
         equal = ap settings f ∙ sym (is-enabled .equal);
         unbroken = goes-on .unbroken;
@@ -246,7 +249,9 @@ demand3 =
       comparable = comparable;
       stepped = stepped;
       readsAlike = reads-alike;
+      fresh-answered = fresh-answered;
       afresh = afresh;
       counted = all-counted;
+      delivered = delivered;
       overrun = overrun;
     }

@@ -22,7 +22,7 @@ use Rattle.histories.proofs.Pin.{line-driven, line-rests}
 use Rattle.histories.proofs.Given.{accessedAll, makes, access-half}
 use Rattle.histories.proofs.OnWire.{sender-kept, receiver-kept, joined, atS, atR, sender-steps, receiver-steps, sender-unchanged, receiver-unchanged, sender-rests, receiver-rests, sender-clocks, receiver-clocks, rests-sender, rests-receiver}
 
-hold-half : (pins : ℕ) (x : Bool) (m : Module) → passes m 1 ≡ false → after (Hold pins x 1) m .sci ≡ clocked (m .sci) x
+pub hold-half : (pins : ℕ) (x : Bool) (m : Module) → passes m 1 ≡ false → after (Hold pins x 1) m .sci ≡ clocked (m .sci) x
 unfolding half.run half.step
 hold-half pins x m h =
     follow.follows (Hold pins x 1) m ∙ ap (λ (b : Bool). half.run (clocks (cond b 0 1) x) (m .sci)) h

@@ -10,6 +10,7 @@ pub mod Rises
 pub mod Shown
 pub mod Touches
 pub mod Lifted
+pub mod Nine
 pub mod Witness
 pub mod Pin
 pub mod Parts
@@ -29,4 +30,12 @@ pub mod Period
 pub mod Clocked
 pub mod Enough
 pub mod Giving
+pub mod Answering
+pub mod Delivering
 pub mod Comparing
+pub mod Carried
+pub mod Hears
+pub mod CountSmall
+pub mod Fetching
+pub mod Sentence
+pub mod SentenceMet

@@ -92,14 +92,14 @@ value-of : (b : Bool) (x : Module) (v : ℕ) (r : Done) → b ≡ true → cond 
 value-of true x v r e = refl
 value-of false x v r e = absurd (false≢true e)
 
-answered : (m : Module) (supervisor : Bool) (width offset : ℕ) → permits (decideRead m supervisor width offset) ≡ true →
+pub answered : (m : Module) (supervisor : Bool) (width offset : ℕ) → permits (decideRead m supervisor width offset) ≡ true →
     step m (event.Access (Read supervisor width offset)) .answer .value ≡ readValue m width offset
 unfolding step answerOf does events.reads
 answered m supervisor width offset e =
     value-of (permits (decideRead m supervisor width offset)) (afterRead m width offset) (readValue m width offset)
     (refused (decideRead m supervisor width offset) m) e
 
-permitted-shaped : (m : Module) (supervisor : Bool) (width offset : ℕ) → permits (decideRead m supervisor width offset) ≡ true →
+pub permitted-shaped : (m : Module) (supervisor : Bool) (width offset : ℕ) → permits (decideRead m supervisor width offset) ≡ true →
     shaped width offset ≡ true
 unfolding decideRead admitted
 permitted-shaped m supervisor width offset e = gate-shaped (shaped width offset) (inMap width offset) (barred m supervisor width offset) e

@@ -32,6 +32,7 @@ use Rattle.histories.specs.Witness.{rate, enable, before, quiet, waited,
 use Rattle.histories.proofs.Follows.{steps, follows}
 use Rattle.histories.proofs.Room.{access-count, run-count, all-plain, since-plain, since-count}
 use Rattle.histories.proofs.Shown.{word-shows}
+use Rattle.histories.proofs.Nine.{by-byte, by-word, by-long}
 use Rattle.histories.proofs.Lifted.{all, all-run, all-ops, all-watched, all-log, from-reset, reset-serial}
 
 same-before : all before resetModule ≡ half.before
@@ -180,4 +181,7 @@ met =
           ∙ sym (later-ops waiting half.waiting waiting-count at-waiting);
       delivers = ap wordsOf (later-watched recovering half.recovering recovering-count at-recovering) ∙ computed.met .delivers;
       loses = losing-log ∙ computed.met .loses;
+      by-byte = by-byte;
+      by-word = by-word;
+      by-long = by-long;
     }

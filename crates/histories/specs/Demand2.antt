@@ -1,4 +1,5 @@
--- Demand 2 of two modules: what the one sends on pin 7 the other receives, clock by clock, whatever the counts of their prescalers.
+-- Demand 2 of two modules: what the one sends on pin 7 the other receives, clock by clock, whatever the counts of their prescalers. Its
+-- sentence, of one frame, is `Sentence`; here are words in turn, and what makes a receiver ready.
 use mathlib.Core.Bool.{Bool, true, false, cond}
 use mathlib.Core.List.{List, [], _∷_, _++_}
 use mathlib.Core.Path.{_≡_}
@@ -148,11 +149,6 @@ Received f q =
     Delivered (dataBits (q .sender .sci .sccr1) (q .sender .sci .transmitter .scdr) % 2 ^ width q)
     (hearing (ended f q .receiver .sci))
 
--- The same rate and settings; the receiver on, awake, searching after three ones with no receive flag but IDLE set (`Matched`), when the
--- frame has begun: the level in that clock is still the one before the start bit, and may be the last of its three ones.
-abbrev pub Arrives : Type 0
-Arrives = (q : Two) (f : Frame) → Sends f q → Matched (halves (begun f q)) → Received f q
-
 -- While the line rests at one a receiver that is ready stays so, whatever is read and written.
 abbrev pub Waits : Type 0
 Waits = (q : Two) (es : List Moment) → Matched (halves q) → Unchanged es q → Rests es q → Matched (halves (play es q))
@@ -182,6 +178,8 @@ abbrev pub AllReceived : List Word → Two → Type 0
 AllReceived [] q = Unit {0}
 AllReceived (u ∷ us) q = Received (u .frame) (play (u .idle) q) × AllReceived us (ended (u .frame) (play (u .idle) q))
 
+-- The same rate and settings; the receiver on, awake, searching after three ones with no receive flag but IDLE set (`Matched`), when the
+-- first frame has begun: the level in that clock is still the one before the start bit, and may be the last of its three ones.
 abbrev pub ArriveInTurn : Type 0
 ArriveInTurn =
     (q : Two) (f : Frame) (us : List Word) → Sends f q → Matched (halves (begun f q)) → AllSent us (ended f q) →
@@ -220,7 +218,6 @@ abbrev pub since : List Event → List Event → Two
 since past past′ = record { sender = run past resetModule; receiver = run past′ resetModule }
 
 pub record Demand2 : Type 0 where
-  pub arrives : Arrives
   pub waits : Waits
   pub uncounted : Uncounted
   pub inTurn : ArriveInTurn

@@ -1,12 +1,13 @@
 -- Demand 3: one claim about every list of events on a module fresh from reset.
 use mathlib.Core.Bool.{Bool, true, false}
 use mathlib.Core.List.{List, [], _∷_, _++_}
+use mathlib.Core.Option.{some}
 use mathlib.Core.Path.{_≡_}
 use Prim.Native.Nat.{ℕ, _+_, _-_, _/_, _%_, _^_, _≤_, _<_}
 use Rattle.sci.specs.Flags.{flag, receiveFlags, common}
 use Rattle.sci.specs.Control.{SCBR, RE, settings}
 use Rattle.sci.specs.Line.{Op, noFlag, Ones, samplesIn, resyncSamples}
-use Rattle.sci.specs.Overrun.{Overrun}
+use Rattle.sci.specs.Overrun.{Mark, frameLost, wordCame, statusRead, wordDelivered, wasReset, Overrun}
 use Rattle.qsm.specs.State.{resetModule}
 use Rattle.qsm.specs.Lanes.{touches}
 use Rattle.qsm.specs.Decision.{permits, decideRead}
@@ -16,7 +17,7 @@ use Rattle.qsm.specs.declared.event.Access.the-variants.{Read}
 use Rattle.qsm.specs.declared.event.Event.{Event}
 use Rattle.qsm.specs.declared.event.Event.the-variants.{Reset}
 use Rattle.qsm.specs.declared.event.Event.the-variants as event
-use Rattle.histories.specs.History.{after, run, Unbroken, readOp, ops, watched, log, counted}
+use Rattle.histories.specs.History.{after, run, receiverRead, Unbroken, readOp, ops, freshWord, watched, log, counted}
 
 -- The byte at a place, of the value that a read of a width at an offset gives: fields are big-endian.
 abbrev pub byteAt : ℕ → ℕ → ℕ → ℕ → ℕ
@@ -70,14 +71,15 @@ Recovered =
     settings (m .sci .sccr1) ≡ settings (c .sci .sccr1) →
     Unbroken later z → Unbroken later′ y → ops later z ≡ ops later′ y → watched later z ≡ watched later′ y
 
--- Such a receiver there always is, with SCBR equal too: for every list of events from the read on, to a reset or counted write, one that gets
--- the same samples and permitted reads. Its own clocks, counted from its reset (02, L9), stay within 2^64 - 1 since the module's do.
+-- Such a receiver there always is, with SCBR equal too and after exactly 352 ones: for every list of events from the read on, to a reset or
+-- counted write, one that gets the same samples and permitted reads. Its own clocks, counted from its reset (02, L9), stay within 2^64 - 1 since the module's do.
 pub record Comparison (m : Module) (given : List Op) : Type 0 where
   pub early : List Event
   pub enable : Event
   pub waited : List Event
   pub later : List Event
   pub compared : Compared early enable waited
+  pub exactly : samplesIn (ops waited (after enable (run early resetModule))) ≡ 352
   pub rate : SCBR (after enable (run early resetModule) .sci .sccr0) ≡ SCBR (m .sci .sccr0)
   pub equal : settings (m .sci .sccr1) ≡ settings (after enable (run early resetModule) .sci .sccr1)
   pub unbroken : Unbroken later (run waited (after enable (run early resetModule)))
@@ -99,6 +101,39 @@ ReadsAlike =
     touches 0x0F 1 width offset ≡ touches 0x0F 1 width′ offset′ →
     (touches 0x0C 4 width offset ≡ touches 0x0C 4 width′ offset′) × (readOp width offset ≡ readOp width′ offset′)
 
+-- A fresh word is what its read answers: RDRF falls only at a permitted read that touches byte 0F, and of the value in its answer that byte is
+-- the word's low byte, and byte 0E, where the read touches it too, is the rest of the word, bit 8.
+abbrev pub FreshAnswered : Type 0
+FreshAnswered =
+    (m : Module) (supervisor : Bool) (width offset word : ℕ) →
+    let e : Event = event.Access (Read supervisor width offset) in
+    freshWord m (after e m) ≡ some word →
+    (receiverRead m supervisor width offset ≡ true) × (touches 0x0F 1 width offset ≡ true) × (word < 512)
+    × (byteAt 0x0F width offset (step m e .answer .value) ≡ word % 256)
+    × (touches 0x0E 1 width offset ≡ true → byteAt 0x0E width offset (step m e .answer .value) ≡ word / 256)
+
+-- Since then no word came, none was delivered and no reset.
+abbrev pub untouched : List Mark → Bool
+untouched [] = true
+untouched (frameLost raises ∷ h) = untouched h
+untouched (wordCame w ∷ h) = false
+untouched (statusRead ∷ h) = untouched h
+untouched (wordDelivered w ∷ h) = false
+untouched (wasReset ∷ h) = false
+
+-- The word that came in last, and was not delivered yet.
+pub record CameLast (past : List Mark) (word : ℕ) : Type 0 where
+  pub before : List Mark
+  pub since : List Mark
+  pub came : past ≡ before ++ (wordCame word ∷ since)
+  pub stays : untouched since ≡ true
+
+-- A word that is delivered is the last that came in: none is delivered twice, made up or behind a later one.
+abbrev pub Delivered : Type 0
+Delivered =
+    (es : List Event) (past rest : List Mark) (word : ℕ) →
+    log es resetModule ≡ past ++ (wordDelivered word ∷ rest) → CameLast past word
+
 -- Of what came before a reset nothing is left: histories from a module's last reset on are all its histories.
 abbrev pub Afresh : Type 0
 Afresh = (past es : List Event) (m : Module) → run (past ++ (Reset ∷ es)) m ≡ run es resetModule
@@ -119,6 +154,8 @@ pub record Demand3 : Type 0 where
   pub comparable : Comparable
   pub stepped : Stepped
   pub readsAlike : ReadsAlike
+  pub fresh-answered : FreshAnswered
   pub afresh : Afresh
   pub counted : Counted
+  pub delivered : Delivered
   pub overrun : (es : List Event) → Overrun (log es resetModule)

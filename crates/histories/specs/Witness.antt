@@ -1,6 +1,7 @@
 -- Demand 3 is about something: lists of events that meet every hypothesis, and then deliver a word.
 use mathlib.Core.Bool.{Bool, true, false}
 use mathlib.Core.List.{List, [], _∷_, _++_}
+use mathlib.Core.Option.{some}
 use mathlib.Core.Path.{_≡_}
 use Prim.Native.Nat.{ℕ, _*_}
 use Rattle.sci.specs.Control.{settings}
@@ -8,12 +9,13 @@ use Rattle.sci.specs.Line.{resyncSamples}
 use Rattle.sci.specs.Overrun.{frameLost, wordCame, statusRead, wordDelivered}
 use Rattle.sci.specs.Witness.{wordsOf}
 use Rattle.qsm.specs.State.{resetModule}
+use Rattle.qsm.specs.Event.{step}
 use Rattle.qsm.specs.declared.state.Module.{Module}
 use Rattle.qsm.specs.declared.event.Access.the-variants.{Read, Write}
 use Rattle.qsm.specs.declared.event.Event.{Event}
 use Rattle.qsm.specs.declared.event.Event.the-variants.{Hold}
 use Rattle.qsm.specs.declared.event.Event.the-variants as event
-use Rattle.histories.specs.History.{after, run, Unbroken, ops, watched, log}
+use Rattle.histories.specs.History.{after, run, Unbroken, ops, freshWord, watched, log}
 use Rattle.histories.specs.Demand3.{Recovers, Compared}
 
 -- SCBR 1, then RE, as words.
@@ -68,6 +70,22 @@ waiting = run waited enabled
 abbrev pub losing : List Event
 losing = rate ∷ (enable ∷ (samples 3 true ∷ (letter ++ (letter ++ (fetch ++ (letter ++ fetch))))))
 
+-- M set, and a word of nine bits, 141, whose bit 8 is a one: start bit, data bits low bit first, stop bit.
+abbrev pub nine : List Event
+nine =
+    rate ∷
+    (event.Access (Write true 2 0x0A 0x204) ∷
+    (samples 3 true ∷
+    (samples 16 false ∷ (samples 16 true ∷ (samples 80 false ∷ (samples 16 true ∷ (samples 16 false ∷ (samples 32 true ∷ []))))))))
+
+abbrev pub nined : Module
+nined = run nine resetModule
+
+-- A read that delivers a word, with such a value in its answer.
+pub record Answers (m : Module) (width offset word shown : ℕ) : Type 0 where
+  pub fresh : freshWord m (after (event.Access (Read true width offset)) m) ≡ some word
+  pub value : step m (event.Access (Read true width offset)) .answer .value ≡ shown
+
 pub record Met : Type 0 where
   pub recovers : Recovers started quiet true 2 0x0C
   pub compared : Compared (rate ∷ []) enable waited
@@ -79,3 +97,6 @@ pub record Met : Type 0 where
   pub loses :
       log losing resetModule
       ≡ wordCame 65 ∷ (frameLost true ∷ (statusRead ∷ (wordDelivered 65 ∷ (wordCame 65 ∷ (statusRead ∷ (wordDelivered 65 ∷ []))))))
+  pub by-byte : Answers (after status nined) 1 0x0F 0x141 0x41
+  pub by-word : Answers (after status nined) 2 0x0E 0x141 0x141
+  pub by-long : Answers nined 4 0x0C 0x141 0x01E00141

@@ -2,7 +2,9 @@ use mathlib.Core.Path.{refl}
 use Rattle.histories.proofs.demand2.Statement.{statement}
 use Rattle.histories.proofs.demand2.Tie as tie
 use Rattle.histories.specs.Demand2.{Demand2}
-use Rattle.histories.proofs.Arriving.{arrives, waits, arrive-in-turn, begins-at-one}
+use Rattle.histories.proofs.Sentence.{sentence}
+use Rattle.histories.proofs.SentenceMet.{can-arrive}
+use Rattle.histories.proofs.Arriving.{waits, arrive-in-turn, begins-at-one}
 use Rattle.histories.proofs.Uncounted.{uncounted, rate-is-all}
 use Rattle.histories.proofs.Stopping.{stop-bit}
 use Rattle.histories.proofs.Pin.{pin-shows}
@@ -13,7 +15,6 @@ use Rattle.histories.proofs.SentNext.{all-sent, all-read}
 demand2 : Demand2
 demand2 =
     record {
-      arrives = arrives;
       waits = waits;
       uncounted = uncounted;
       inTurn = arrive-in-turn;
@@ -25,7 +26,7 @@ demand2 =
     }
 
 returns : tie.Need-returns
-returns c = (refl, demand2)
+returns c = (refl, sentence, can-arrive, demand2)
 
 pub demand2-spec : {M : Type 1} → statement M
 demand2-spec = tie.close (tie.spec returns)
