@@ -1,0 +1,9 @@
+pub mod Places
+pub mod FlagsFall
+pub mod SeenBy
+pub mod Starts
+pub mod Sums
+pub mod Noise
+pub mod Witness
+pub mod Permission
+pub mod Off
