@@ -1,0 +1,12 @@
+pub mod Marks
+pub mod Walked
+pub mod Fresh
+pub mod Runs
+pub mod Cut
+pub mod Gathered
+pub mod Converting
+pub mod Keeping
+pub mod Arrived
+pub mod Laying
+pub mod Last
+pub mod Meeting
