@@ -1,0 +1,11 @@
+pub mod Lines
+pub mod Left
+pub mod Aging
+pub mod Sampled
+pub mod Stands
+pub mod Events
+pub mod Asking
+pub mod Polling
+pub mod Ruled
+pub mod Replaying
+pub mod Reaching
