@@ -1,0 +1,16 @@
+pub mod Playing
+pub mod Inside
+pub mod Runs
+pub mod Zeros
+pub mod Counts
+pub mod Through
+pub mod Whole
+pub mod Pacing
+pub mod Sampled
+pub mod Grid
+pub mod Serial
+pub mod Undamaged
+pub mod Waiting
+pub mod Reading
+pub mod InTime
+pub mod Arrives

@@ -1,0 +1,9 @@
+pub mod Fair
+pub mod Heard
+pub mod Witness
+pub mod Rates
+pub mod Clocks
+pub mod Serial
+pub mod Undamaged
+pub mod InTime
+pub mod Arrives
