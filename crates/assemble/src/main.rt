@@ -1,5 +1,4 @@
 // Makes a trace from lines of text, in the form that `show --trace` prints. The trace is replaced whole or not at all.
-use assembler::item::Fault;
 use files::message::fail;
 use files::message::say;
 use files::message::say_first;
@@ -8,6 +7,7 @@ use libc::STDOUT_FILENO;
 use run::Next;
 use run::Turned;
 use text::line::Line;
+use tool_assemble::item::Fault;
 
 mod run;
 

@@ -1,14 +1,14 @@
 // Lines taken one after the other, however the text comes in: byte by byte they are collected until one is whole.
 ghost use Prim.Native.Nat.{_≤_};
-use assembler::encode::encode;
-use assembler::item::Fault;
-use assembler::item::Item;
-use assembler::sent::Sent;
 use files::output::write_first;
 use files::pieces::counted;
 use files::pieces::fill;
 use files::pieces::least;
 use qsm::event::Event;
+use tool_assemble::encode::encode;
+use tool_assemble::item::Fault;
+use tool_assemble::item::Item;
+use tool_assemble::sent::Sent;
 
 pub enum Next {
     More,
@@ -45,7 +45,7 @@ fn send_byte(out: i32, s: Sent, byte: u8, k: u32) -> bool
 {
     let mut i: u8 = 0;
     while i < 10 {
-        let b = assembler::sent::bit_hold(s, byte, i, k + i as u32);
+        let b = tool_assemble::sent::bit_hold(s, byte, i, k + i as u32);
         let e = b.event;
         if !write_record(out, b.kind, e) {
             return false;
@@ -67,7 +67,7 @@ fn send(out: i32, s: Sent, line: &[u8]) -> Wrote {
     let start = least(s.start, line.len());
     let mut at = line.len() - start;
     while k < 10240 {
-        let c = assembler::sent::first(&line[at..]);
+        let c = tool_assemble::sent::first(&line[at..]);
         let n = least(c.length, line.len() - at);
         if n == 0 {
             return Wrote {
@@ -125,7 +125,7 @@ fn column(length: usize, left: usize) -> u64 {
 // What the first n bytes of a buffer say.
 fn said(bytes: &[u8], n: usize) -> Item {
     let some = least(n, bytes.len());
-    assembler::item::parse(&bytes[..some])
+    tool_assemble::item::parse(&bytes[..some])
 }
 
 fn send_first(out: i32, s: Sent, bytes: &[u8], n: usize) -> Wrote {

@@ -7,24 +7,24 @@ use lib.Dec.{eqb}
 use borrow.Author.Tests.{eqb-true}
 use Rattle.steps.specs.Bits.{bit, merge}
 use Rattle.steps.specs.Iterate.{iterate}
-use Rattle.sci.specs.Flags.{RAF, receiveFlags, transmitFlags}
-use Rattle.sci.specs.Members.{member}
-use Rattle.sci.specs.Status.{fall, markSeen, fallSeen}
-use Rattle.sci.specs.Control as control
-use Rattle.sci.specs.Control.{sccr0Bits, sccr1Bits}
-use Rattle.sci.specs.Serial.{sccr1Word, sccr0Set, stopped, withSccr1, wroteSccr0, wroteSccr1}
+use Rattle.sci.specs.model.Flags.{RAF, receiveFlags, transmitFlags}
+use Rattle.sci.specs.claims.Members.{member}
+use Rattle.sci.specs.model.Status.{fall, markSeen, fallSeen}
+use Rattle.sci.specs.model.Control as control
+use Rattle.sci.specs.model.Control.{sccr0Bits, sccr1Bits}
+use Rattle.sci.specs.model.Serial.{sccr1Word, sccr0Set, stopped, withSccr1, wroteSccr0, wroteSccr1}
 use Rattle.sci.specs.declared.serial.Sci.{Sci}
 use Rattle.sci.specs.declared.status.Status.{Status}
 use Rattle.sci.proofs.Membership.{and-left, and-right}
 use Rattle.sci.proofs.Flagged.{isSet, isMarked, set-fall, marked-fall, set-markSeen, marked-markSeen, set-fallSeen, marked-fallSeen}
-use Rattle.qsm.specs.Map.{decode}
-use Rattle.qsm.specs.Serial.{serialRead, putSerial}
-use Rattle.qsm.specs.Word.{put}
-use Rattle.qsm.specs.Lanes.{lowerLane, upperLane, inMap, isRestricted, touches, lined}
-use Rattle.qsm.specs.Access.{next, store, stored}
-use Rattle.qsm.specs.Decision.{permits, shaped, fits, barred, gate, tested, admitted, decideRead, storedBy, decideStored, decideWrite}
-use Rattle.qsm.specs.Event.{done, answerOf, afterRead, readValue, refused, reads, writes, does, step}
-use Rattle.qsm.specs.StatusFlags.{readAt}
+use Rattle.qsm.specs.model.Map.{decode}
+use Rattle.qsm.specs.model.Serial.{serialRead, putSerial}
+use Rattle.qsm.specs.model.Word.{put}
+use Rattle.qsm.specs.model.Lanes.{lowerLane, upperLane, inMap, isRestricted, touches, lined}
+use Rattle.qsm.specs.model.Access.{next, store, stored}
+use Rattle.qsm.specs.model.Decision.{permits, shaped, fits, barred, gate, tested, admitted, decideRead, storedBy, decideStored, decideWrite}
+use Rattle.qsm.specs.model.Event.{done, answerOf, afterRead, readValue, refused, reads, writes, does, step}
+use Rattle.qsm.specs.claims.StatusFlags.{readAt}
 use Rattle.qsm.specs.declared.state.Module.{Module}
 use Rattle.qsm.specs.declared.map.Place.{Place}
 use Rattle.qsm.specs.declared.map.Place.the-variants.{Own, Serial, Queue, Hole}

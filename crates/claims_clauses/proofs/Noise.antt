@@ -8,13 +8,13 @@ use native.Mathlib.Nat.{add-assoc}
 use lib.Dec.{eqb}
 use borrow.Author.Tests.{eqb-true, not-true}
 use Rattle.steps.specs.Bits.{digit}
-use Rattle.sci.specs.Flags.{OR, RDRF}
-use Rattle.sci.specs.Members.{member}
-use Rattle.sci.specs.Status.{has, raiseIf}
-use Rattle.sci.specs.Control.{M, bitsOf}
-use Rattle.sci.specs.Bits.{vote}
-use Rattle.sci.specs.Framer.{begun, more, ends, frameOf, framed}
-use Rattle.sci.specs.Receiver.{three, takes, outcome, entered, statusAfter, receiverAfter, received}
+use Rattle.sci.specs.model.Flags.{OR, RDRF}
+use Rattle.sci.specs.claims.Members.{member}
+use Rattle.sci.specs.model.Status.{has, raiseIf}
+use Rattle.sci.specs.model.Control.{M, bitsOf}
+use Rattle.sci.specs.model.Bits.{vote}
+use Rattle.sci.specs.model.Framer.{begun, more, ends, frameOf, framed}
+use Rattle.sci.specs.model.Receiver.{three, takes, outcome, entered, statusAfter, receiverAfter, received}
 use Rattle.sci.specs.declared.flags.Flags.{Flags}
 use Rattle.sci.specs.declared.framer.Framer.{Framer}
 use Rattle.sci.specs.declared.framer.Frame.{Frame}

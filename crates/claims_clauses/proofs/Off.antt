@@ -7,19 +7,19 @@ use native.Mathlib.Omega.{arith}
 use lib.Dec.{eqb}
 use Rattle.steps.specs.Bits.{bit, merge}
 use Rattle.steps.specs.Iterate.{iterate}
-use Rattle.sci.specs.Control as control
-use Rattle.sci.specs.Control.{sccr0Bits, sccr1Bits}
-use Rattle.sci.specs.Receiver.{startState}
-use Rattle.sci.specs.Transmitter.{sent}
-use Rattle.sci.specs.Serial.{active, due, heard, afterSent, prescaled, sampled, clocked, sccr1Word, sccr0Set, stopped, withSccr1, wroteSccr0, wroteSccr1}
+use Rattle.sci.specs.model.Control as control
+use Rattle.sci.specs.model.Control.{sccr0Bits, sccr1Bits}
+use Rattle.sci.specs.model.Receiver.{startState}
+use Rattle.sci.specs.model.Transmitter.{sent}
+use Rattle.sci.specs.model.Serial.{active, due, heard, afterSent, prescaled, sampled, clocked, sccr1Word, sccr0Set, stopped, withSccr1, wroteSccr0, wroteSccr1}
 use Rattle.sci.specs.declared.receiver.Receiver.{Receiver}
 use Rattle.sci.specs.declared.serial.Sci.{Sci}
-use Rattle.qsm.specs.State.{resetModule}
-use Rattle.qsm.specs.Serial.{serialRead, putSerial}
-use Rattle.qsm.specs.Word.{put}
-use Rattle.qsm.specs.Lanes.{touches}
-use Rattle.qsm.specs.Decision.{permits, decideRead, storedBy, decideStored}
-use Rattle.qsm.specs.Event.{held, clocks, clockModule, afterRead, readValue, refused, resets, reads, writes, does, step}
+use Rattle.qsm.specs.model.State.{resetModule}
+use Rattle.qsm.specs.model.Serial.{serialRead, putSerial}
+use Rattle.qsm.specs.model.Word.{put}
+use Rattle.qsm.specs.model.Lanes.{touches}
+use Rattle.qsm.specs.model.Decision.{permits, decideRead, storedBy, decideStored}
+use Rattle.qsm.specs.model.Event.{held, clocks, clockModule, afterRead, readValue, refused, resets, reads, writes, does, step}
 use Rattle.qsm.specs.declared.state.Module.{Module}
 use Rattle.qsm.specs.declared.map.Place.{Place}
 use Rattle.qsm.specs.declared.map.Place.the-variants.{Own, Serial, Queue, Hole}

@@ -8,13 +8,13 @@ use borrow.Author.Tests.{eqb-true}
 use Rattle.steps.specs.Bits.{bit}
 use Rattle.steps.specs.Iterate.{iterate}
 use Rattle.sci.proofs.Membership.{and-left, and-right}
-use Rattle.qsm.specs.Map.{decode}
-use Rattle.qsm.specs.Own.{peekOwn}
-use Rattle.qsm.specs.Word.{peek}
-use Rattle.qsm.specs.Lanes.{inMap, isRestricted}
-use Rattle.qsm.specs.Access.{fetch, fetched}
-use Rattle.qsm.specs.Decision.{permits, refusalOf, shaped, fits, barred, gate, tested, admitted, decideRead, storedBy, decideStored, decideWrite}
-use Rattle.qsm.specs.Event.{done, answerOf, afterRead, readValue, refused, reads, writes, does, step}
+use Rattle.qsm.specs.model.Map.{decode}
+use Rattle.qsm.specs.model.Own.{peekOwn}
+use Rattle.qsm.specs.model.Word.{peek}
+use Rattle.qsm.specs.model.Lanes.{inMap, isRestricted}
+use Rattle.qsm.specs.model.Access.{fetch, fetched}
+use Rattle.qsm.specs.model.Decision.{permits, refusalOf, shaped, fits, barred, gate, tested, admitted, decideRead, storedBy, decideStored, decideWrite}
+use Rattle.qsm.specs.model.Event.{done, answerOf, afterRead, readValue, refused, reads, writes, does, step}
 use Rattle.qsm.specs.declared.state.Module.{Module}
 use Rattle.qsm.specs.declared.decision.Decision.{Decision}
 use Rattle.qsm.specs.declared.decision.Decision.the-variants.{Permitted, Blocked, Misshapen, Unmapped, Unmodelled, Guarded}

@@ -6,10 +6,10 @@ use native.Mathlib.Omega.{arith}
 use lib.Dec.{eqb, leb, ltb}
 use borrow.Author.Tests.{ltb-true, ltb-false, leb-true, lt-ltb, le-leb, lt-leb, eqb-true, eqb-false}
 use Rattle.sci.proofs.Membership.{and-left, and-right}
-use Rattle.qsm.specs.Map.{decode, mapped}
-use Rattle.qsm.specs.Lanes.{lowerLane, inMap, touches}
-use Rattle.qsm.specs.Access.{next}
-use Rattle.qsm.specs.Decision.{shaped}
+use Rattle.qsm.specs.model.Map.{decode, mapped}
+use Rattle.qsm.specs.model.Lanes.{lowerLane, inMap, touches}
+use Rattle.qsm.specs.model.Access.{next}
+use Rattle.qsm.specs.model.Decision.{shaped}
 use Rattle.qsm.specs.declared.map.Place.{Place}
 use Rattle.qsm.specs.declared.map.Place.the-variants.{Own, Serial, Queue, Hole}
 use Rattle.qsm.specs.declared.map.SerialWord.{SerialWord}

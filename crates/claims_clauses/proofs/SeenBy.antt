@@ -7,13 +7,13 @@ use lib.Dec.{eqb}
 use borrow.Author.Tests.{ne-eqb}
 use Rattle.steps.specs.Iterate.{iterate}
 use Rattle.steps.specs.Bits.{bit}
-use Rattle.sci.specs.Flags.{PF, FE, NF, OR, IDLE, RAF, RDRF, TC, TDRE}
-use Rattle.sci.specs.Members.{member}
-use Rattle.sci.specs.Status.{raise, raiseIf, fallIf}
-use Rattle.sci.specs.Control as control
-use Rattle.sci.specs.Receiver.{raised, entered, statusAfter, outcome, received}
-use Rattle.sci.specs.Transmitter.{sent}
-use Rattle.sci.specs.Serial.{active, due, heard, afterSent, prescaled, sampled, clocked}
+use Rattle.sci.specs.model.Flags.{PF, FE, NF, OR, IDLE, RAF, RDRF, TC, TDRE}
+use Rattle.sci.specs.claims.Members.{member}
+use Rattle.sci.specs.model.Status.{raise, raiseIf, fallIf}
+use Rattle.sci.specs.model.Control as control
+use Rattle.sci.specs.model.Receiver.{raised, entered, statusAfter, outcome, received}
+use Rattle.sci.specs.model.Transmitter.{sent}
+use Rattle.sci.specs.model.Serial.{active, due, heard, afterSent, prescaled, sampled, clocked}
 use Rattle.sci.specs.declared.flags.Flags.{Flags}
 use Rattle.sci.specs.declared.framer.Frame.{Frame}
 use Rattle.sci.specs.declared.receiver.Receiver.{Receiver}
@@ -23,8 +23,8 @@ use Rattle.sci.specs.declared.status.Status.{Status}
 use Rattle.sci.specs.declared.transmitter.Transmitter.{Transmitter}
 use Rattle.sci.proofs.Membership.{and-right}
 use Rattle.sci.proofs.Flagged.{isSet, isMarked, set-raise, set-raiseIf, marked-raise, marked-raiseIf, fall-keeps, fall-keeps-marked}
-use Rattle.qsm.specs.State.{resetModule}
-use Rattle.qsm.specs.Event.{held, clocks, clockModule, step, does, resets}
+use Rattle.qsm.specs.model.State.{resetModule}
+use Rattle.qsm.specs.model.Event.{held, clocks, clockModule, step, does, resets}
 use Rattle.qsm.specs.declared.state.Module.{Module}
 use Rattle.qsm.specs.declared.event.Access.{Access}
 use Rattle.qsm.specs.declared.event.Event.{Event}

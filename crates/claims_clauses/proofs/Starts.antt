@@ -8,11 +8,11 @@ use lib.Dec.{ltb}
 use lib.ListN.{getD}
 use borrow.Author.Tests.{le-ltb}
 use Rattle.steps.specs.Bits.{digit}
-use Rattle.sci.specs.Control.{M, bitsOf}
-use Rattle.sci.specs.Bits.{vote, onesOf}
-use Rattle.sci.specs.Framer.{begun, searching, searched, adjusts, startBit, nextRt, atRt, firstAt, secondAt, judged, fixed, framed}
-use Rattle.sci.specs.Receiver.{startState, receiverAfter, received}
-use Rattle.sci.specs.Levels.{framerAfter}
+use Rattle.sci.specs.model.Control.{M, bitsOf}
+use Rattle.sci.specs.model.Bits.{vote, onesOf}
+use Rattle.sci.specs.model.Framer.{begun, searching, searched, adjusts, startBit, nextRt, atRt, firstAt, secondAt, judged, fixed, framed}
+use Rattle.sci.specs.model.Receiver.{startState, receiverAfter, received}
+use Rattle.sci.specs.claims.Levels.{framerAfter}
 use Rattle.sci.specs.declared.framer.Framer.{Framer}
 use Rattle.sci.specs.declared.receiver.Receiver.{Receiver}
 use Rattle.sci.specs.declared.receiver.Received.{Received}

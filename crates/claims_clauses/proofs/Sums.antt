@@ -7,8 +7,8 @@ use native.Mathlib.Omega.{arith}
 use lib.Dec.{eqb, leb, ltb}
 use borrow.Author.Tests.{eqb-true, eqb-false, ltb-true}
 use Rattle.steps.specs.Bits.{bit, digit}
-use Rattle.sci.specs.Bits.{vote, onesOf, majority, disagreed}
-use Rattle.sci.specs.Framer.{more, adjusts, adjusted, earlyFall, lateFall, nextRt, startBit, dataBit, stopBit, judged, inBit, fixed, framed, ends, frameOf}
+use Rattle.sci.specs.model.Bits.{vote, onesOf, majority, disagreed}
+use Rattle.sci.specs.model.Framer.{more, adjusts, adjusted, earlyFall, lateFall, nextRt, startBit, dataBit, stopBit, judged, inBit, fixed, framed, ends, frameOf}
 use Rattle.sci.specs.declared.framer.Framer.{Framer}
 use Rattle.sci.proofs.Membership.{and-left, and-right}
 use Rattle.sci.proofs.Moves.{moving}

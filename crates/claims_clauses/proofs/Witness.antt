@@ -1,20 +1,20 @@
 -- Cases that meet the laws' hypotheses, computed. Assumes nothing.
 use mathlib.Core.Path.{refl}
 use Rattle.steps.specs.Iterate.{iterate}
-use Rattle.sci.specs.Status.{has, raise, raiseIf, fall, fallIf, markSeen, fallSeen}
-use Rattle.sci.specs.Framer.{startBit, dataBit, stopBit, fixed, framed}
-use Rattle.sci.specs.Receiver.{outcome, raised, entered, statusAfter, receiverAfter, received}
-use Rattle.sci.specs.Levels.{lowBits}
-use Rattle.sci.specs.Moves.{lasting}
-use Rattle.qsm.specs.State.{resetModule}
-use Rattle.qsm.specs.Map.{decode}
-use Rattle.qsm.specs.Lanes.{inMap, isRestricted}
-use Rattle.qsm.specs.Serial.{peekSerial, serialRead, putSerial, serialUnmodelled, serialGuarded}
-use Rattle.qsm.specs.Queue.{queueRead}
-use Rattle.qsm.specs.Word.{peek, put, unmodelled, guarded}
-use Rattle.qsm.specs.Access.{fetch, fetched, store, stored}
-use Rattle.qsm.specs.Decision.{admitted, decideRead, storedBy, decideStored, decideWrite}
-use Rattle.qsm.specs.Event.{answerOf, afterRead, readValue, refused, reads, writes, does, step}
+use Rattle.sci.specs.model.Status.{has, raise, raiseIf, fall, fallIf, markSeen, fallSeen}
+use Rattle.sci.specs.model.Framer.{startBit, dataBit, stopBit, fixed, framed}
+use Rattle.sci.specs.model.Receiver.{outcome, raised, entered, statusAfter, receiverAfter, received}
+use Rattle.sci.specs.claims.Levels.{lowBits}
+use Rattle.sci.specs.claims.Moves.{lasting}
+use Rattle.qsm.specs.model.State.{resetModule}
+use Rattle.qsm.specs.model.Map.{decode}
+use Rattle.qsm.specs.model.Lanes.{inMap, isRestricted}
+use Rattle.qsm.specs.model.Serial.{peekSerial, serialRead, putSerial, serialUnmodelled, serialGuarded}
+use Rattle.qsm.specs.model.Queue.{queueRead}
+use Rattle.qsm.specs.model.Word.{peek, put, unmodelled, guarded}
+use Rattle.qsm.specs.model.Access.{fetch, fetched, store, stored}
+use Rattle.qsm.specs.model.Decision.{admitted, decideRead, storedBy, decideStored, decideWrite}
+use Rattle.qsm.specs.model.Event.{answerOf, afterRead, readValue, refused, reads, writes, does, step}
 use Rattle.claims_clauses.specs.Witness.{FallMet, NoiseMet}
 
 pub fall-met : FallMet

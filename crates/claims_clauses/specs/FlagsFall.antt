@@ -4,8 +4,8 @@ use mathlib.Core.Bool.{Bool, true, false, not, _&&_, _||_}
 use Prim.Native.Nat.{ℕ, _+_, _<_}
 use lib.Dec.{eqb, leb, ltb}
 use Rattle.steps.specs.Bits.{bit}
-use Rattle.qsm.specs.Decision.{permits, decideRead, decideWrite}
-use Rattle.qsm.specs.Event.{step}
+use Rattle.qsm.specs.model.Decision.{permits, decideRead, decideWrite}
+use Rattle.qsm.specs.model.Event.{step}
 use Rattle.qsm.specs.declared.state.Module.{Module}
 use Rattle.qsm.specs.declared.event.Access.{Access}
 use Rattle.qsm.specs.declared.event.Access.the-variants.{Read, Write}

@@ -5,10 +5,10 @@ use mathlib.Core.List.{List, [], _∷_}
 use Prim.Native.Nat.{ℕ, _+_, _%_, _≤_}
 use lib.Dec.{eqb}
 use Rattle.steps.specs.Bits.{digit}
-use Rattle.sci.specs.Flags.{RDRF}
-use Rattle.sci.specs.Status.{has}
-use Rattle.sci.specs.Control.{M, bitsOf}
-use Rattle.sci.specs.Receiver.{received}
+use Rattle.sci.specs.model.Flags.{RDRF}
+use Rattle.sci.specs.model.Status.{has}
+use Rattle.sci.specs.model.Control.{M, bitsOf}
+use Rattle.sci.specs.model.Receiver.{received}
 use Rattle.sci.specs.declared.receiver.Receiver.{Receiver}
 use Rattle.sci.specs.declared.receiver.Received.{Received}
 use Rattle.claims_clauses.specs.Starts.{hear, inFrame}

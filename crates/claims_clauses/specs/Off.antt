@@ -4,9 +4,9 @@ use mathlib.Core.Path.{_≡_}
 use mathlib.Core.Bool.{false}
 use mathlib.Core.List.{List}
 use Prim.Native.Nat.{ℕ}
-use Rattle.sci.specs.Receiver.{startState}
+use Rattle.sci.specs.model.Receiver.{startState}
 use Rattle.sci.specs.declared.receiver.Receiver.{Receiver}
-use Rattle.qsm.specs.State.{resetModule}
+use Rattle.qsm.specs.model.State.{resetModule}
 use Rattle.qsm.specs.declared.event.Event.{Event}
 use Rattle.claims_clauses.specs.FlagsFall.{RE}
 use Rattle.claims_clauses.specs.SeenBy.{play}

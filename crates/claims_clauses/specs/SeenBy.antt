@@ -3,8 +3,8 @@ use mathlib.Core.Path.{_≡_}
 use mathlib.Core.Bool.{Bool, true, false, not, _&&_, _||_}
 use mathlib.Core.List.{List, [], _∷_}
 use Prim.Native.Nat.{ℕ, _<_}
-use Rattle.qsm.specs.State.{resetModule}
-use Rattle.qsm.specs.Event.{step}
+use Rattle.qsm.specs.model.State.{resetModule}
+use Rattle.qsm.specs.model.Event.{step}
 use Rattle.qsm.specs.declared.state.Module.{Module}
 use Rattle.qsm.specs.declared.event.Access.{Access}
 use Rattle.qsm.specs.declared.event.Event.{Event}

@@ -6,7 +6,7 @@ use Prim.Native.Nat.{ℕ, _+_, _≤_, _<_}
 use lib.Dec.{ltb}
 use lib.ListN.{getD}
 use Rattle.steps.specs.Bits.{digit}
-use Rattle.sci.specs.Receiver.{startState, received}
+use Rattle.sci.specs.model.Receiver.{startState, received}
 use Rattle.sci.specs.declared.receiver.Receiver.{Receiver}
 use Rattle.sci.specs.declared.receiver.Received.{Received}
 use Rattle.sci.specs.declared.status.Status.{Status}

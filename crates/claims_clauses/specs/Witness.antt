@@ -4,13 +4,13 @@ use mathlib.Core.Bool.{Bool, true, false}
 use mathlib.Core.List.{List, [], _∷_, _++_}
 use Prim.Native.Nat.{ℕ, _+_}
 use lib.ListN.{take, drop}
-use Rattle.sci.specs.Flags.{RDRF, flag}
-use Rattle.sci.specs.Status.{has}
-use Rattle.sci.specs.Serial.{resetSci, withStatus}
-use Rattle.sci.specs.Levels.{lowBits}
-use Rattle.sci.specs.Moves.{lasting}
+use Rattle.sci.specs.model.Flags.{RDRF, flag}
+use Rattle.sci.specs.model.Status.{has}
+use Rattle.sci.specs.model.Serial.{resetSci, withStatus}
+use Rattle.sci.specs.claims.Levels.{lowBits}
+use Rattle.sci.specs.claims.Moves.{lasting}
 use Rattle.sci.specs.declared.receiver.Received.{Received}
-use Rattle.qsm.specs.State.{resetModule, withSci}
+use Rattle.qsm.specs.model.State.{resetModule, withSci}
 use Rattle.qsm.specs.declared.state.Module.{Module}
 use Rattle.qsm.specs.declared.event.Access.the-variants.{Read, Write}
 use Rattle.qsm.specs.declared.event.Event.the-variants as event

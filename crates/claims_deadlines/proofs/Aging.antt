@@ -3,10 +3,10 @@ use mathlib.Core.Path.{_≡_}
 use mathlib.Core.Bool.{true, cond, _&&_}
 use mathlib.Core.List.{List, [], _∷_}
 use Prim.Native.Nat.{ℕ, suc, _<_}
-use Rattle.sci.specs.Control.{RE}
-use Rattle.sci.specs.Receiver.{full}
-use Rattle.sci.specs.Serial.{clocked}
-use Rattle.sci.specs.History.{Step, reset, clock, reads, writesSccr0, writesSccr1, writesScdr, step}
+use Rattle.sci.specs.model.Control.{RE}
+use Rattle.sci.specs.model.Receiver.{full}
+use Rattle.sci.specs.model.Serial.{clocked}
+use Rattle.sci.specs.claims.History.{Step, reset, clock, reads, writesSccr0, writesSccr1, writesScdr, step}
 use Rattle.sci.specs.declared.serial.Sci.{Sci}
 
 -- The age of a word over a step, and that it is below the limit.

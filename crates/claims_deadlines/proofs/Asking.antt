@@ -5,15 +5,15 @@ use Prim.Native.Nat.{ℕ, _≤_}
 use native.Mathlib.Omega.{arith}
 use lib.Dec.{eqb, leb}
 use borrow.Author.Tests.{eqb-true, leb-true}
-use Rattle.sci.specs.Flags.{IDLE, TC, TDRE}
-use Rattle.sci.specs.Status.{has}
-use Rattle.sci.specs.Control.{TIE, TCIE, ILIE}
-use Rattle.sci.specs.Serial as serial
+use Rattle.sci.specs.model.Flags.{IDLE, TC, TDRE}
+use Rattle.sci.specs.model.Status.{has}
+use Rattle.sci.specs.model.Control.{TIE, TCIE, ILIE}
+use Rattle.sci.specs.model.Serial as serial
 use Rattle.sci.specs.declared.serial.Sci.{Sci}
 use Rattle.sci.proofs.Frames.{by-cond}
-use Rattle.qspi.specs.Outputs as queue
-use Rattle.qsm.specs.Request.{ILQSPI, ILSCI, winner, request}
-use Rattle.qsm.specs.Event.{answerOf, does, step}
+use Rattle.qspi.specs.model.Outputs as queue
+use Rattle.qsm.specs.model.Request.{ILQSPI, ILSCI, winner, request}
+use Rattle.qsm.specs.model.Event.{answerOf, does, step}
 use Rattle.qsm.specs.declared.state.Module.{Module}
 use Rattle.qsm.specs.declared.request.Request.{Request}
 use Rattle.claims_deadlines.specs.Deadline.{Asks, AnswerAsks}

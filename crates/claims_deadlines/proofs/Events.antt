@@ -4,31 +4,31 @@ use mathlib.Core.Bool.{Bool, true, false≢true}
 use mathlib.Core.List.{List, [], _∷_, _++_}
 use mathlib.Core.Option.{none}
 use Prim.Native.Nat.{ℕ, zero, suc, _*_}
-use Rattle.sci.specs.Control.{SCBR, RE, M, bitsOf}
-use Rattle.sci.specs.Line.{Op}
-use Rattle.sci.specs.Serial.{resetSci, clocked}
-use Rattle.sci.specs.History.{Step, reset, clock, reads, writesSccr0, writesSccr1, writesScdr}
-use Rattle.sci.specs.History as sci
+use Rattle.sci.specs.model.Control.{SCBR, RE, M, bitsOf}
+use Rattle.sci.specs.claims.Line.{Op}
+use Rattle.sci.specs.model.Serial.{resetSci, clocked}
+use Rattle.sci.specs.claims.History.{Step, reset, clock, reads, writesSccr0, writesSccr1, writesScdr}
+use Rattle.sci.specs.claims.History as sci
 use Rattle.sci.specs.declared.serial.Sci.{Sci}
 use Rattle.sci.proofs.History.{clocks}
 use Rattle.sci.proofs.Follow.{step-sccr1}
 use Rattle.sci.proofs.Reachable.{Reachable}
-use Rattle.qsm.specs.State.{resetModule}
-use Rattle.qsm.specs.Event.{held, clockModule}
+use Rattle.qsm.specs.model.State.{resetModule}
+use Rattle.qsm.specs.model.Event.{held, clockModule}
 use Rattle.qsm.specs.declared.state.Module.{Module}
 use Rattle.qsm.specs.declared.event.Event.{Event}
 use Rattle.qsm.specs.declared.event.Event.the-variants.{Reset, Hold}
 use Rattle.qsm.specs.declared.event.Event.the-variants as event
-use Rattle.histories.specs.History.{after, run, playedClocks, ops}
-use Rattle.histories.proofs.Words.{isSccr1}
-use Rattle.histories.proofs.Follows.{steps, follows}
-use Rattle.histories.proofs.Lifted.{all, all-ops, all-log}
-use Rattle.histories.proofs.Parts.{Along, event-along, on-part}
-use Rattle.histories.proofs.Given.{AllAccesses, event-accesses}
-use Rattle.histories.proofs.Uncounted.{rate-is-all}
-use Rattle.polls.specs.Spacing.{samplesOf}
-use Rattle.polls.specs.Rule.{lostIn}
-use Rattle.polls.proofs.Ruled.{reached}
+use Rattle.claims_histories.specs.History.{after, run, playedClocks, ops}
+use Rattle.claims_histories.proofs.Words.{isSccr1}
+use Rattle.claims_histories.proofs.Follows.{steps, follows}
+use Rattle.claims_histories.proofs.Lifted.{all, all-ops, all-log}
+use Rattle.claims_histories.proofs.Parts.{Along, event-along, on-part}
+use Rattle.claims_histories.proofs.Given.{AllAccesses, event-accesses}
+use Rattle.claims_histories.proofs.Uncounted.{rate-is-all}
+use Rattle.claims_polling.specs.Spacing.{samplesOf}
+use Rattle.claims_polling.specs.Rule.{lostIn}
+use Rattle.claims_polling.proofs.Ruled.{reached}
 use Rattle.claims_deadlines.specs.Deadline.{ageAfter, ageFor, InTimeFor, InTime, SpacedFrom, Keeps, Deadline, AnyLine}
 use Rattle.claims_deadlines.proofs.Lines.{spaced-from}
 use Rattle.claims_deadlines.proofs.Aging.{aged, agedAll, InSteps, KeepsSteps}

@@ -6,21 +6,21 @@ use Prim.Native.Nat.{ℕ}
 use lib.Dec.{eqb}
 use borrow.Author.Tests.{eqb-true, eq-eqb}
 use Rattle.steps.specs.Bits.{merge}
-use Rattle.sci.specs.Flags.{transmitFlags}
-use Rattle.sci.specs.Status.{fallSeen}
-use Rattle.sci.specs.Control.{SCBR, RE, sccr0Bits, sccr1Bits, settings}
-use Rattle.sci.specs.Receiver.{full}
-use Rattle.sci.specs.Line.{readStatus}
-use Rattle.sci.specs.Serial.{active, sccr0Set, wroteSccr0, wroteSccr1, stopped, withSccr1, sccr1Word, sccr0Guarded, sccr1Guarded}
-use Rattle.sci.specs.History.{Step, reset, clock, reads, writesSccr0, writesSccr1, writesScdr, step}
+use Rattle.sci.specs.model.Flags.{transmitFlags}
+use Rattle.sci.specs.model.Status.{fallSeen}
+use Rattle.sci.specs.model.Control.{SCBR, RE, sccr0Bits, sccr1Bits, settings}
+use Rattle.sci.specs.model.Receiver.{full}
+use Rattle.sci.specs.claims.Line.{readStatus}
+use Rattle.sci.specs.model.Serial.{active, sccr0Set, wroteSccr0, wroteSccr1, stopped, withSccr1, sccr1Word, sccr0Guarded, sccr1Guarded}
+use Rattle.sci.specs.claims.History.{Step, reset, clock, reads, writesSccr0, writesSccr1, writesScdr, step}
 use Rattle.sci.specs.declared.serial.Sci.{Sci}
 use Rattle.sci.proofs.Same.{same-loaded}
 use Rattle.sci.proofs.Settings.{same-bits}
 use Rattle.sci.proofs.Sampling.{re-active}
 use Rattle.sci.proofs.Reachable.{re-put, settings-stand}
-use Rattle.histories.proofs.Given.{Accesses}
-use Rattle.polls.proofs.Full.{full-same, read-clear}
-use Rattle.polls.proofs.Timed.{width}
+use Rattle.claims_histories.proofs.Given.{Accesses}
+use Rattle.claims_polling.proofs.Full.{full-same, read-clear}
+use Rattle.claims_polling.proofs.Timed.{width}
 
 pub record Left (s r : Sci) : Type 0 where
   pub sccr0 : r .sccr0 ≡ s .sccr0

@@ -5,15 +5,15 @@ use mathlib.Core.List.{List, [], _∷_}
 use mathlib.Core.Option.{Option, none, some}
 use Prim.Native.Nat.{ℕ, _+_, _≤_}
 use native.Mathlib.Omega.{arith}
-use Rattle.sci.specs.Control.{M, bitsOf}
-use Rattle.sci.specs.Framer.{ends, adjusts, framed}
-use Rattle.sci.specs.Levels.{Unmoved}
-use Rattle.sci.specs.Sound.{Fits}
+use Rattle.sci.specs.model.Control.{M, bitsOf}
+use Rattle.sci.specs.model.Framer.{ends, adjusts, framed}
+use Rattle.sci.specs.claims.Levels.{Unmoved}
+use Rattle.sci.specs.claims.Sound.{Fits}
 use Rattle.sci.specs.declared.framer.Framer.{Framer}
 use Rattle.sci.proofs.Frames.{moved}
-use Rattle.polls.specs.Spacing.{apart}
-use Rattle.polls.proofs.Nearing.{soonest, at-end, end-searches}
-use Rattle.polls.proofs.Spaced.{nears-bits}
+use Rattle.claims_polling.specs.Spacing.{apart}
+use Rattle.claims_polling.proofs.Nearing.{soonest, at-end, end-searches}
+use Rattle.claims_polling.proofs.Spaced.{nears-bits}
 use Rattle.claims_deadlines.specs.Deadline.{counted, FarEnough, SpacedFrom}
 
 -- The samples since the last end and those until the next can be no fewer.

@@ -6,33 +6,33 @@ use Prim.Native.Nat.{ℕ, zero, suc, _+_, _≤_, _<_}
 use native.Mathlib.Omega.{arith}
 use lib.Dec.{eqb}
 use Rattle.steps.specs.Bits.{merge}
-use Rattle.sci.specs.Flags.{RAF, transmitFlags}
-use Rattle.sci.specs.Status.{has, fall, fallSeen}
-use Rattle.sci.specs.Control.{RE, sccr0Bits}
-use Rattle.sci.specs.Receiver.{full}
-use Rattle.sci.specs.Line.{readStatus}
-use Rattle.sci.specs.Serial.{resetSci, wroteSccr0, wroteSccr1, stopped, withSccr1, sccr1Word, sccr0Guarded, sccr1Guarded}
-use Rattle.sci.specs.History.{Step, reset, clock, reads, writesSccr0, writesSccr1, writesScdr}
-use Rattle.sci.specs.History as sci
+use Rattle.sci.specs.model.Flags.{RAF, transmitFlags}
+use Rattle.sci.specs.model.Status.{has, fall, fallSeen}
+use Rattle.sci.specs.model.Control.{RE, sccr0Bits}
+use Rattle.sci.specs.model.Receiver.{full}
+use Rattle.sci.specs.claims.Line.{readStatus}
+use Rattle.sci.specs.model.Serial.{resetSci, wroteSccr0, wroteSccr1, stopped, withSccr1, sccr1Word, sccr0Guarded, sccr1Guarded}
+use Rattle.sci.specs.claims.History.{Step, reset, clock, reads, writesSccr0, writesSccr1, writesScdr}
+use Rattle.sci.specs.claims.History as sci
 use Rattle.sci.specs.declared.serial.Sci.{Sci}
 use Rattle.sci.proofs.Frames.{by-cond}
 use Rattle.sci.proofs.Same.{same-loaded, outside-fall}
 use Rattle.sci.proofs.History.{clocks}
-use Rattle.qsm.specs.State.{resetModule}
-use Rattle.qsm.specs.Event.{passes, held, clockModule}
-use Rattle.qsm.specs.StatusFlags.{SCI, status}
+use Rattle.qsm.specs.model.State.{resetModule}
+use Rattle.qsm.specs.model.Event.{passes, held, clockModule}
+use Rattle.qsm.specs.claims.StatusFlags.{SCI, status}
 use Rattle.qsm.specs.declared.state.Module.{Module}
 use Rattle.qsm.specs.declared.event.Event.{Event}
 use Rattle.qsm.specs.declared.event.Event.the-variants.{Reset, Hold}
 use Rattle.qsm.specs.declared.event.Event.the-variants as event
 use Rattle.qsm.specs.declared.event.Access as bus
-use Rattle.gatherer.specs.Poll.{statusRead, dataRead, calls, pollEvents}
-use Rattle.histories.specs.History.{after, run, playedClocks}
-use Rattle.histories.proofs.Follows.{steps, follows}
-use Rattle.histories.proofs.Given.{Accesses, AllAccesses, event-accesses}
-use Rattle.polls.specs.Rule.{clocksIn, waiting, polledAfter}
-use Rattle.polls.proofs.Full.{full-same, read-clear}
-use Rattle.polls.proofs.Ruled.{clears}
+use Rattle.tool_lines.specs.Poll.{statusRead, dataRead, calls, pollEvents}
+use Rattle.claims_histories.specs.History.{after, run, playedClocks}
+use Rattle.claims_histories.proofs.Follows.{steps, follows}
+use Rattle.claims_histories.proofs.Given.{Accesses, AllAccesses, event-accesses}
+use Rattle.claims_polling.specs.Rule.{clocksIn, waiting, polledAfter}
+use Rattle.claims_polling.proofs.Full.{full-same, read-clear}
+use Rattle.claims_polling.proofs.Ruled.{clears}
 use Rattle.claims_deadlines.specs.Deadline.{ageAfter, ageFor, InTimeFor, InTime, Served, Polled, PolledKept}
 use Rattle.claims_deadlines.proofs.Left.{refuted-full}
 use Rattle.claims_deadlines.proofs.Events.{reset-run, deadline, any-line}

@@ -7,34 +7,34 @@ use Prim.Native.Nat.{ℕ, zero, suc, _*_}
 use lib.Dec.{leb, ltb}
 use borrow.Author.Tests.{not-true, leb-true, ltb-true}
 use Rattle.steps.specs.Iterate.{iterate}
-use Rattle.sci.specs.Status.{has, raise, raiseIf, fall, fallIf, markSeen, fallSeen}
-use Rattle.sci.specs.Control.{RE, M, bitsOf}
-use Rattle.sci.specs.Framer.{ends, adjusts, startBit, dataBit, stopBit, fixed, framed}
-use Rattle.sci.specs.Receiver.{outcome, raised, entered, statusAfter, receiverAfter, received}
-use Rattle.sci.specs.Transmitter.{sent}
-use Rattle.sci.specs.Levels.{Unmoved, stretched, lowBits}
-use Rattle.sci.specs.Line.{Op}
-use Rattle.sci.specs.Serial.{sampled, clocked, wroteSccr0, wroteSccr1, sccr0Guarded, sccr1Guarded}
+use Rattle.sci.specs.model.Status.{has, raise, raiseIf, fall, fallIf, markSeen, fallSeen}
+use Rattle.sci.specs.model.Control.{RE, M, bitsOf}
+use Rattle.sci.specs.model.Framer.{ends, adjusts, startBit, dataBit, stopBit, fixed, framed}
+use Rattle.sci.specs.model.Receiver.{outcome, raised, entered, statusAfter, receiverAfter, received}
+use Rattle.sci.specs.model.Transmitter.{sent}
+use Rattle.sci.specs.claims.Levels.{Unmoved, stretched, lowBits}
+use Rattle.sci.specs.claims.Line.{Op}
+use Rattle.sci.specs.model.Serial.{sampled, clocked, wroteSccr0, wroteSccr1, sccr0Guarded, sccr1Guarded}
 use Rattle.sci.specs.declared.framer.Framer.{Framer}
 use Rattle.sci.specs.declared.receiver.Receiver.{Receiver}
 use Rattle.sci.specs.declared.serial.Sci.{Sci}
 use Rattle.sci.proofs.Membership.{and-left, and-right}
-use Rattle.qsm.specs.State.{resetModule}
-use Rattle.qsm.specs.Map.{decode}
-use Rattle.qsm.specs.Lanes.{inMap, isRestricted}
-use Rattle.qsm.specs.Serial.{peekSerial, serialRead, putSerial, serialUnmodelled, serialGuarded}
-use Rattle.qsm.specs.Word.{peek, put, unmodelled, guarded}
-use Rattle.qsm.specs.Access.{fetch, fetched, store, stored}
-use Rattle.qsm.specs.Decision.{admitted, decideRead, storedBy, decideStored, decideWrite}
-use Rattle.qsm.specs.Event.{held, clockModule, clocks, afterRead, readValue, refused, holds, reads, writes, does}
+use Rattle.qsm.specs.model.State.{resetModule}
+use Rattle.qsm.specs.model.Map.{decode}
+use Rattle.qsm.specs.model.Lanes.{inMap, isRestricted}
+use Rattle.qsm.specs.model.Serial.{peekSerial, serialRead, putSerial, serialUnmodelled, serialGuarded}
+use Rattle.qsm.specs.model.Word.{peek, put, unmodelled, guarded}
+use Rattle.qsm.specs.model.Access.{fetch, fetched, store, stored}
+use Rattle.qsm.specs.model.Decision.{admitted, decideRead, storedBy, decideStored, decideWrite}
+use Rattle.qsm.specs.model.Event.{held, clockModule, clocks, afterRead, readValue, refused, holds, reads, writes, does}
 use Rattle.qsm.specs.declared.state.Module.{Module}
 use Rattle.qsm.specs.declared.event.Event.{Event}
 use Rattle.qsm.specs.declared.event.Event.the-variants.{Reset, Hold}
 use Rattle.qsm.specs.declared.event.Event.the-variants as event
-use Rattle.histories.specs.History.{after, run, playedClocks, ops, log}
-use Rattle.polls.specs.Spacing.{apart, samplesOf, cut}
-use Rattle.polls.specs.Rule.{waiting, started}
-use Rattle.polls.proofs.Losing.{harmless, harmless-unbroken}
+use Rattle.claims_histories.specs.History.{after, run, playedClocks, ops, log}
+use Rattle.claims_polling.specs.Spacing.{apart, samplesOf, cut}
+use Rattle.claims_polling.specs.Rule.{waiting, started}
+use Rattle.claims_polling.proofs.Losing.{harmless, harmless-unbroken}
 use Rattle.claims_deadlines.specs.Deadline.{ageAfter, ageFor, InTimeFor, InTime, counted, FarEnough, SpacedFrom}
 use Rattle.claims_deadlines.specs.Reached.{Meets, Reached, AnyReached, StillReached, changing, FairReached}
 use Rattle.claims_deadlines.proofs.Ruled.{unbroken-keeps}

@@ -8,28 +8,28 @@ use native.Mathlib.Nat.{mod-lt, mod-eq-of-lt, add-mod-left}
 use lib.Dec.{eqb, ltb}
 use lib.ListN.{length, drop}
 use borrow.Author.Tests.{eqb-true, ltb-true, ltb-false}
-use Rattle.sci.specs.Receiver.{full}
+use Rattle.sci.specs.model.Receiver.{full}
 use Rattle.sci.specs.declared.serial.Sci.{Sci}
 use Rattle.sci.proofs.Frames.{by-cond}
-use Rattle.qsm.specs.State.{resetModule}
-use Rattle.qsm.specs.Event.{passes, held}
-use Rattle.qsm.specs.StatusFlags.{SCI, status}
+use Rattle.qsm.specs.model.State.{resetModule}
+use Rattle.qsm.specs.model.Event.{passes, held}
+use Rattle.qsm.specs.claims.StatusFlags.{SCI, status}
 use Rattle.qsm.specs.declared.state.Module.{Module}
 use Rattle.qsm.specs.declared.event.Event.the-variants.{Reset, Hold}
 use Rattle.qsm.specs.declared.event.Event.the-variants as event
 use Rattle.trace.specs.Trace.{parsed}
 use Rattle.trace.specs.declared.Parsed.{Parsed}
 use Rattle.trace.specs.declared.Parsed.the-variants.{Record, Unknown, Cut}
-use Rattle.gatherer.specs.Poll.{calls, polled, pollEvents}
-use Rattle.gatherer.specs.Schedule.{Act, plays, polls, acts, stops, Scheduled, next, scheduledFor, scheduled}
-use Rattle.gatherer.specs.Replay.{eventsOf}
-use Rattle.gatherer.proofs.Schedules.{cut-quiet, cut-poll}
-use Rattle.histories.specs.History.{after, run, playedClocks}
-use Rattle.histories.proofs.Follows.{follows}
-use Rattle.polls.specs.Rule.{waiting, longest}
-use Rattle.polls.specs.Replays.{replayed}
-use Rattle.polls.proofs.Ruled.{clears}
-use Rattle.polls.proofs.Replaying.{poll-run}
+use Rattle.tool_lines.specs.Poll.{calls, polled, pollEvents}
+use Rattle.tool_lines.specs.Schedule.{Act, plays, polls, acts, stops, Scheduled, next, scheduledFor, scheduled}
+use Rattle.tool_lines.specs.Replay.{eventsOf}
+use Rattle.tool_lines.proofs.Schedules.{cut-quiet, cut-poll}
+use Rattle.claims_histories.specs.History.{after, run, playedClocks}
+use Rattle.claims_histories.proofs.Follows.{follows}
+use Rattle.claims_polling.specs.Rule.{waiting, longest}
+use Rattle.claims_polling.specs.Replays.{replayed}
+use Rattle.claims_polling.proofs.Ruled.{clears}
+use Rattle.claims_polling.proofs.Replaying.{poll-run}
 use Rattle.claims_deadlines.specs.Deadline.{ageFor, InTime, ReplayInTime, ReplayServed}
 use Rattle.claims_deadlines.proofs.Polling.{access-waits, reset-waits, hold-in, hold-left, played-few, in-joined, poll-in, served}
 

@@ -2,23 +2,23 @@
 use mathlib.Core.Path.{_≡_, refl, ap, _∙_}
 use mathlib.Core.Bool.{Bool, true, false, cond, _&&_, and-false}
 use mathlib.Core.List.{List, [], _∷_, _++_}
-use Rattle.sci.specs.Control.{RE}
-use Rattle.sci.specs.Line.{read, delivers}
-use Rattle.sci.specs.Transmitter.{sent}
-use Rattle.sci.specs.Serial.{active, due}
-use Rattle.sci.specs.History.{Step, reset, clock, reads, writesSccr0, writesSccr1, writesScdr, step, receiving, sampling}
-use Rattle.sci.specs.History as sci
-use Rattle.sci.specs.Overrun.{Mark, sampleMarks, stepMarks}
-use Rattle.sci.specs.Overrun as marks
+use Rattle.sci.specs.model.Control.{RE}
+use Rattle.sci.specs.claims.Line.{read, delivers}
+use Rattle.sci.specs.model.Transmitter.{sent}
+use Rattle.sci.specs.model.Serial.{active, due}
+use Rattle.sci.specs.claims.History.{Step, reset, clock, reads, writesSccr0, writesSccr1, writesScdr, step, receiving, sampling}
+use Rattle.sci.specs.claims.History as sci
+use Rattle.sci.specs.claims.Overrun.{Mark, sampleMarks, stepMarks}
+use Rattle.sci.specs.claims.Overrun as marks
 use Rattle.sci.specs.declared.serial.Sci.{Sci}
 use Rattle.sci.proofs.Follow.{step-sccr1}
-use Rattle.qsm.specs.State.{resetModule}
+use Rattle.qsm.specs.model.State.{resetModule}
 use Rattle.qsm.specs.declared.state.Module.{Module}
 use Rattle.qsm.specs.declared.event.Event.{Event}
-use Rattle.histories.specs.History.{after, run, breaks, Unbroken, log}
-use Rattle.histories.proofs.Lifted.{all, all-log, all-unbroken}
-use Rattle.polls.specs.Rule.{lostIn, polledAfter, Kept}
-use Rattle.polls.proofs.Ruled.{stays}
+use Rattle.claims_histories.specs.History.{after, run, breaks, Unbroken, log}
+use Rattle.claims_histories.proofs.Lifted.{all, all-log, all-unbroken}
+use Rattle.claims_polling.specs.Rule.{lostIn, polledAfter, Kept}
+use Rattle.claims_polling.proofs.Ruled.{stays}
 use Rattle.claims_deadlines.specs.Deadline.{Keeps}
 use Rattle.claims_deadlines.proofs.Stands.{lost-read}
 use Rattle.claims_deadlines.proofs.Polling.{polled-kept}

@@ -4,10 +4,10 @@ use mathlib.Core.Bool.{Bool, true, false, not, _&&_, _||_, true≢false, false�
 use Prim.Native.Nat.{_+_, _≤_}
 use lib.Dec.{eqb, leb}
 use borrow.Author.Tests.{leb-true}
-use Rattle.sci.specs.Framer.{ends}
-use Rattle.sci.specs.Receiver.{takes, full, outcome, received}
-use Rattle.sci.specs.Transmitter.{sent}
-use Rattle.sci.specs.Serial.{due}
+use Rattle.sci.specs.model.Framer.{ends}
+use Rattle.sci.specs.model.Receiver.{takes, full, outcome, received}
+use Rattle.sci.specs.model.Transmitter.{sent}
+use Rattle.sci.specs.model.Serial.{due}
 use Rattle.sci.specs.declared.status.Status.{Status}
 use Rattle.sci.specs.declared.receiver.Receiver.{Receiver}
 use Rattle.sci.specs.declared.receiver.Outcome.{Outcome}
@@ -17,8 +17,8 @@ use Rattle.sci.proofs.Same.{same-sent}
 use Rattle.sci.proofs.Flagged.{isSet}
 use Rattle.sci.proofs.Rising.{rdrf-after, or-after}
 use Rattle.sci.proofs.Reachable.{turned}
-use Rattle.polls.proofs.Full.{full-sets, full-same, sample-full}
-use Rattle.polls.proofs.Timed.{rate}
+use Rattle.claims_polling.proofs.Full.{full-sets, full-same, sample-full}
+use Rattle.claims_polling.proofs.Timed.{rate}
 
 pub due-prescaler : (s : Sci) → due s ≡ true → rate s ≤ s .prescaler + 1
 due-prescaler s d = leb-true (rate s) (s .prescaler + 1) (and-right (not (eqb (rate s) 0)) (leb (rate s) (s .prescaler + 1)) d)

@@ -6,21 +6,21 @@ use mathlib.Core.Option.{Option, none, some}
 use Prim.Native.Nat.{ℕ, suc, _+_, _*_, _%_, _≤_, _<_}
 use native.Mathlib.Omega.{arith}
 use native.Mathlib.Nat.{mul-le-mul-right}
-use Rattle.sci.specs.Flags.{OR}
-use Rattle.sci.specs.Status.{has}
-use Rattle.sci.specs.Control.{SCBR, RE}
-use Rattle.sci.specs.Framer.{ends}
-use Rattle.sci.specs.Receiver.{full, received, receiverAfter}
-use Rattle.sci.specs.Line.{Op, sample, read, delivers}
-use Rattle.sci.specs.Serial.{due, clocked, counted}
-use Rattle.sci.specs.History.{Step, reset, clock, reads, writesSccr0, writesSccr1, writesScdr, step, receiving, sampling, stepOps, ops}
-use Rattle.sci.specs.Overrun.{Mark, frameLost, wordCame, sampleMarks, lookMarks, deliveryMarks, stepMarks, log}
+use Rattle.sci.specs.model.Flags.{OR}
+use Rattle.sci.specs.model.Status.{has}
+use Rattle.sci.specs.model.Control.{SCBR, RE}
+use Rattle.sci.specs.model.Framer.{ends}
+use Rattle.sci.specs.model.Receiver.{full, received, receiverAfter}
+use Rattle.sci.specs.claims.Line.{Op, sample, read, delivers}
+use Rattle.sci.specs.model.Serial.{due, clocked, counted}
+use Rattle.sci.specs.claims.History.{Step, reset, clock, reads, writesSccr0, writesSccr1, writesScdr, step, receiving, sampling, stepOps, ops}
+use Rattle.sci.specs.claims.Overrun.{Mark, frameLost, wordCame, sampleMarks, lookMarks, deliveryMarks, stepMarks, log}
 use Rattle.sci.specs.declared.serial.Sci.{Sci}
 use Rattle.sci.proofs.Sampling.{re-active}
 use Rattle.sci.proofs.Reachable.{turned, clock-turned}
-use Rattle.polls.specs.Spacing.{samplesOf}
-use Rattle.polls.specs.Rule.{lostIn}
-use Rattle.polls.proofs.Timed.{rate, width}
+use Rattle.claims_polling.specs.Spacing.{samplesOf}
+use Rattle.claims_polling.specs.Rule.{lostIn}
+use Rattle.claims_polling.proofs.Timed.{rate, width}
 use Rattle.claims_deadlines.specs.Deadline.{FarEnough, SpacedFrom}
 use Rattle.claims_deadlines.specs.Deadline as spec
 use Rattle.claims_deadlines.proofs.Left.{Left, left}

@@ -4,22 +4,22 @@ use mathlib.Core.List.{List, [], _∷_}
 use mathlib.Core.Option.{Option, none, some}
 use mathlib.Core.Path.{_≡_}
 use Prim.Native.Nat.{ℕ, zero, suc, _*_, _≤_, _<_}
-use Rattle.sci.specs.Control.{SCBR, RIE, RE, M, bitsOf}
-use Rattle.sci.specs.Framer.{ends, framed}
-use Rattle.sci.specs.Serial as serial
+use Rattle.sci.specs.model.Control.{SCBR, RIE, RE, M, bitsOf}
+use Rattle.sci.specs.model.Framer.{ends, framed}
+use Rattle.sci.specs.model.Serial as serial
 use Rattle.sci.specs.declared.framer.Framer.{Framer}
-use Rattle.qsm.specs.State.{resetModule}
-use Rattle.qsm.specs.Request.{ILSCI}
-use Rattle.qsm.specs.Event.{held, clockModule, step}
+use Rattle.qsm.specs.model.State.{resetModule}
+use Rattle.qsm.specs.model.Request.{ILSCI}
+use Rattle.qsm.specs.model.Event.{held, clockModule, step}
 use Rattle.qsm.specs.declared.state.Module.{Module}
 use Rattle.qsm.specs.declared.event.Event.{Event}
 use Rattle.qsm.specs.declared.event.Event.the-variants.{Reset, Hold}
 use Rattle.qsm.specs.declared.event.Event.the-variants as event
 use Rattle.qsm.specs.declared.event.Stepped.{Stepped}
-use Rattle.histories.specs.History.{after, run, playedClocks, ops, log}
-use Rattle.polls.specs.Spacing.{apart, samplesOf}
-use Rattle.polls.specs.Rule.{lostIn, waiting, longest, MovingIn, polledAfter, Within}
-use Rattle.polls.specs.Replays.{replayed}
+use Rattle.claims_histories.specs.History.{after, run, playedClocks, ops, log}
+use Rattle.claims_polling.specs.Spacing.{apart, samplesOf}
+use Rattle.claims_polling.specs.Rule.{lostIn, waiting, longest, MovingIn, polledAfter, Within}
+use Rattle.claims_polling.specs.Replays.{replayed}
 
 -- The age of a word that waits: the clocks since the one that it came in. Over a clock that takes a module m to m′ it goes up by one if the
 -- word waits before and after it; a word that comes is 0 old. (Where nothing waits the age says nothing.)

@@ -4,15 +4,15 @@ use mathlib.Core.List.{List, [], _∷_, _++_}
 use mathlib.Core.Path.{_≡_}
 use Prim.Native.Nat.{ℕ, suc, _-_, _*_}
 use lib.ListN.{length, take, replicate}
-use Rattle.sci.specs.Control.{SCBR, RE}
-use Rattle.sci.specs.Levels.{frameLevels, lowBits}
-use Rattle.sci.specs.Overrun.{Mark, frameLost, wordCame, statusRead, wordDelivered}
+use Rattle.sci.specs.model.Control.{SCBR, RE}
+use Rattle.sci.specs.claims.Levels.{frameLevels, lowBits}
+use Rattle.sci.specs.claims.Overrun.{Mark, frameLost, wordCame, statusRead, wordDelivered}
 use Rattle.qsm.specs.declared.event.Event.{Event}
 use Rattle.qsm.specs.declared.event.Event.the-variants.{Hold}
-use Rattle.histories.specs.History.{log}
-use Rattle.histories.specs.Witness.{fetch}
-use Rattle.polls.specs.Spacing.{apart, shortest}
-use Rattle.polls.specs.Rule.{waiting, MovingIn, levels, started, Kept}
+use Rattle.claims_histories.specs.History.{log}
+use Rattle.claims_histories.specs.Witness.{fetch}
+use Rattle.claims_polling.specs.Spacing.{apart, shortest}
+use Rattle.claims_polling.specs.Rule.{waiting, MovingIn, levels, started, Kept}
 use Rattle.claims_deadlines.specs.Deadline.{InTime, SpacedBy, Keeps, Deadline, AnyLine, Served, Polled, PolledKept, ReplayInTime, ReplayServed, Asks, AnswerAsks}
 
 -- With SCBR 1, so two clocks a sample: the samples up to a frame's end, and those from there to the end of the next, of which the last one is

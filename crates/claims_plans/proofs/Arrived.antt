@@ -7,21 +7,21 @@ use native.Mathlib.Omega.{arith}
 use lib.Dec.{eqb}
 use borrow.Author.Tests.{eqb-true, eqb-false, le-ltb}
 use Rattle.steps.specs.Bits.{bit}
-use Rattle.qspi.specs.Fields.{mstr, cpol, cpha, spe, bitsOf}
-use Rattle.qspi.specs.Outputs.{sck}
-use Rattle.qspi.specs.Run.{run}
+use Rattle.qspi.specs.model.Fields.{mstr, cpol, cpha, spe, bitsOf}
+use Rattle.qspi.specs.model.Outputs.{sck}
+use Rattle.qspi.specs.claims.Run.{run}
 use Rattle.qspi.specs.declared.Qspi.{Qspi}
-use Rattle.qsm.specs.Event.{answerOf}
-use Rattle.qsm.specs.PinClauses.{high}
+use Rattle.qsm.specs.model.Event.{answerOf}
+use Rattle.qsm.specs.claims.PinClauses.{high}
 use Rattle.qsm.specs.declared.state.Module.{Module}
 use Rattle.qsm.specs.declared.event.Event.{Event}
 use Rattle.qsm.proofs.Booleans.{on}
-use Rattle.planner.specs.Check.{selectNo, bitsNo, wordNo, commandNo}
-use Rattle.planner.specs.Accepted.{Accepted}
-use Rattle.planner.specs.Running.{startOf, edgeNo, Does}
-use Rattle.planner.specs.declared.SetPoints.{SetPoints}
-use Rattle.planner.specs.declared.Plan.{Plan}
-use Rattle.planner.proofs.Started.{Started}
+use Rattle.tool_plan.specs.Check.{selectNo, bitsNo, wordNo, commandNo}
+use Rattle.tool_plan.specs.Accepted.{Accepted}
+use Rattle.tool_plan.specs.Running.{startOf, edgeNo, Does}
+use Rattle.tool_plan.specs.declared.SetPoints.{SetPoints}
+use Rattle.tool_plan.specs.declared.Plan.{Plan}
+use Rattle.tool_plan.proofs.Started.{Started}
 use Rattle.claims_plans.specs.Watching.{clocksIn, Watched}
 use Rattle.claims_plans.specs.Moments.{cut, moment}
 use Rattle.claims_plans.specs.Standing.{Laid}

@@ -7,19 +7,19 @@ use native.Mathlib.Omega.{arith}
 use lib.Dec.{eqb, leb}
 use borrow.Author.Tests.{leb-true, leb-false, eqb-true, eqb-false, eq-eqb, ne-eqb}
 use Rattle.steps.specs.Bits.{bit, digit}
-use Rattle.qspi.specs.Fields.{cpol, cpha, spbr, preDelay}
+use Rattle.qspi.specs.model.Fields.{cpol, cpha, spbr, preDelay}
 use Rattle.qspi.proofs.Bounds.{pre-pos}
-use Rattle.qsm.specs.Event.{answerOf}
-use Rattle.qsm.specs.PinClauses.{high}
+use Rattle.qsm.specs.model.Event.{answerOf}
+use Rattle.qsm.specs.claims.PinClauses.{high}
 use Rattle.qsm.specs.declared.state.Module.{Module}
 use Rattle.qsm.specs.declared.event.Answer.{Answer}
 use Rattle.qsm.proofs.Booleans.{on}
-use Rattle.planner.specs.Check.{selectNo, bitsNo, wordNo, commandNo, clockBefore}
-use Rattle.planner.specs.Accepted.{Accepted}
-use Rattle.planner.specs.Running.{startOf, edgeNo, Within, readIn, Does}
-use Rattle.planner.specs.declared.SetPoints.{SetPoints}
-use Rattle.planner.specs.declared.Plan.{Plan}
-use Rattle.planner.proofs.Sending.{read-in}
+use Rattle.tool_plan.specs.Check.{selectNo, bitsNo, wordNo, commandNo, clockBefore}
+use Rattle.tool_plan.specs.Accepted.{Accepted}
+use Rattle.tool_plan.specs.Running.{startOf, edgeNo, Within, readIn, Does}
+use Rattle.tool_plan.specs.declared.SetPoints.{SetPoints}
+use Rattle.tool_plan.specs.declared.Plan.{Plan}
+use Rattle.tool_plan.proofs.Sending.{read-in}
 use Rattle.claims_plans.specs.Converter.{Converter, same, chosen, atRest, reads, atEdge, shifted, holdsAt, converterFor, Wired}
 use Rattle.claims_plans.proofs.Gathered.{gathered, gathers-in, gathered-none, gathered-again, gathered-all}
 

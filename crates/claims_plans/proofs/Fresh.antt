@@ -4,15 +4,15 @@ use mathlib.Core.Bool.{Bool, true, false, cond, _||_}
 use Prim.Native.Nat.{ℕ, _%_}
 use native.Mathlib.Omega.{arith}
 use Rattle.steps.specs.Bits.{merge}
-use Rattle.qspi.specs.Fields.{spe, newqp}
-use Rattle.qspi.specs.Parts.{withRegisters}
-use Rattle.qspi.specs.Registers.{withSpcr1, switched, writeSpcr1, spcr2Bits}
-use Rattle.qspi.specs.Queue.{entryAt}
+use Rattle.qspi.specs.model.Fields.{spe, newqp}
+use Rattle.qspi.specs.model.Parts.{withRegisters}
+use Rattle.qspi.specs.model.Registers.{withSpcr1, switched, writeSpcr1, spcr2Bits}
+use Rattle.qspi.specs.model.Queue.{entryAt}
 use Rattle.qspi.specs.declared.Qspi.{Qspi}
-use Rattle.qsm.specs.Queue.{putQueue}
-use Rattle.qsm.specs.Word.{put}
-use Rattle.qsm.specs.Decision.{permits, storedBy, decideStored}
-use Rattle.qsm.specs.Event.{refused, writes, does}
+use Rattle.qsm.specs.model.Queue.{putQueue}
+use Rattle.qsm.specs.model.Word.{put}
+use Rattle.qsm.specs.model.Decision.{permits, storedBy, decideStored}
+use Rattle.qsm.specs.model.Event.{refused, writes, does}
 use Rattle.qsm.specs.declared.state.Module.{Module}
 use Rattle.qsm.specs.declared.map.Place.{Place}
 use Rattle.qsm.specs.declared.map.Place.the-variants.{Own, Serial, Queue, Hole}

@@ -7,17 +7,17 @@ use native.Mathlib.Omega.{arith}
 use lib.Dec.{eqb, leb}
 use borrow.Author.Tests.{leb-true, leb-false, eqb-true, eqb-false}
 use Rattle.steps.specs.Bits.{bit}
-use Rattle.qspi.specs.Fields.{cpol, cpha}
-use Rattle.qsm.specs.Event.{answerOf}
-use Rattle.qsm.specs.PinClauses.{high}
+use Rattle.qspi.specs.model.Fields.{cpol, cpha}
+use Rattle.qsm.specs.model.Event.{answerOf}
+use Rattle.qsm.specs.claims.PinClauses.{high}
 use Rattle.qsm.specs.declared.state.Module.{Module}
 use Rattle.qsm.specs.declared.event.Answer.{Answer}
 use Rattle.qsm.proofs.Booleans.{on}
-use Rattle.planner.specs.Check.{selectNo, bitsNo, wordNo}
-use Rattle.planner.specs.Accepted.{Accepted}
-use Rattle.planner.specs.Running.{startOf, edgeNo, Within, Does}
-use Rattle.planner.specs.declared.SetPoints.{SetPoints}
-use Rattle.planner.specs.declared.Plan.{Plan}
+use Rattle.tool_plan.specs.Check.{selectNo, bitsNo, wordNo}
+use Rattle.tool_plan.specs.Accepted.{Accepted}
+use Rattle.tool_plan.specs.Running.{startOf, edgeNo, Within, Does}
+use Rattle.tool_plan.specs.declared.SetPoints.{SetPoints}
+use Rattle.tool_plan.specs.declared.Plan.{Plan}
 use Rattle.claims_plans.specs.Converter.{Converter, same, chosen, shifted, holdsAt, converterFor, Wired}
 use Rattle.claims_plans.proofs.Converting.{same-itself, same-other, kept, other-edge, not-taken, grows, in-order, sck-in, pcs-in, arrived}
 

@@ -4,15 +4,15 @@ use mathlib.Core.Bool.{true, false, _&&_, and-false}
 use mathlib.Core.List.{List, [], _∷_, foldl-append}
 use Prim.Native.Nat.{ℕ, _+_, _<_}
 use native.Mathlib.Omega.{arith}
-use Rattle.qspi.specs.Fields.{mstr, spe}
-use Rattle.qspi.specs.Parts.{withRegisters}
-use Rattle.qspi.specs.Registers.{withSpcr1, risen, writeSpcr1}
+use Rattle.qspi.specs.model.Fields.{mstr, spe}
+use Rattle.qspi.specs.model.Parts.{withRegisters}
+use Rattle.qspi.specs.model.Registers.{withSpcr1, risen, writeSpcr1}
 use Rattle.qspi.specs.declared.Qspi.{Qspi}
-use Rattle.qsm.specs.Map.{decode}
-use Rattle.qsm.specs.Queue.{putQueue, queueUnmodelled, queueGuarded}
-use Rattle.qsm.specs.State.{withQspi}
-use Rattle.qsm.specs.Word.{put, unmodelled, guarded}
-use Rattle.qsm.specs.Event.{passes, does}
+use Rattle.qsm.specs.model.Map.{decode}
+use Rattle.qsm.specs.model.Queue.{putQueue, queueUnmodelled, queueGuarded}
+use Rattle.qsm.specs.model.State.{withQspi}
+use Rattle.qsm.specs.model.Word.{put, unmodelled, guarded}
+use Rattle.qsm.specs.model.Event.{passes, does}
 use Rattle.qsm.specs.declared.state.Module.{Module}
 use Rattle.qsm.specs.declared.event.Access.the-variants.{Write}
 use Rattle.qsm.specs.declared.event.Event.{Event}
@@ -20,15 +20,15 @@ use Rattle.qsm.specs.declared.event.Event.the-variants.{Hold}
 use Rattle.qsm.specs.declared.event.Event.the-variants as event
 use Rattle.qsm.specs.declared.map.QueueWord.the-variants.{Spcr1}
 use Rattle.qsm.proofs.Limit.{is-room}
-use Rattle.planner.specs.Accepted.{Accepted}
-use Rattle.planner.specs.Loading.{writing}
-use Rattle.planner.specs.Running.{played, Span, NoFault}
-use Rattle.planner.specs.declared.SetPoints.{SetPoints}
-use Rattle.planner.specs.declared.Plan.{Plan}
-use Rattle.planner.proofs.Meaning.{means}
-use Rattle.planner.proofs.Writing.{word-written}
+use Rattle.tool_plan.specs.Accepted.{Accepted}
+use Rattle.tool_plan.specs.Loading.{writing}
+use Rattle.tool_plan.specs.Running.{played, Span, NoFault}
+use Rattle.tool_plan.specs.declared.SetPoints.{SetPoints}
+use Rattle.tool_plan.specs.declared.Plan.{Plan}
+use Rattle.tool_plan.proofs.Meaning.{means}
+use Rattle.tool_plan.proofs.Writing.{word-written}
 use Rattle.claims_plans.specs.Standing.{Laid}
-use Rattle.claims_plans.specs.Claims.{Works, allButLast, Lays, AnyLastWrite, WordLast, LoadedInOrder, HoldsAreWatched}
+use Rattle.claims_plans.specs.Plans.{Works, allButLast, Lays, AnyLastWrite, WordLast, LoadedInOrder, HoldsAreWatched}
 use Rattle.claims_plans.proofs.Walked.{is}
 use Rattle.claims_plans.proofs.Fresh.{Fresh, write-fresh}
 use Rattle.claims_plans.proofs.Runs.{standing, runs-plan}

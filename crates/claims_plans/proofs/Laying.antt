@@ -6,28 +6,28 @@ use Prim.Native.Nat.{ℕ, _/_, _<_}
 use native.Mathlib.Nat.{lt-of-lt-of-le, pow-le-pow-right}
 use native.Mathlib.Omega.{arith}
 use Rattle.steps.specs.Bits.{bit, word, upperByte, lowerByte}
-use Rattle.qspi.specs.Fields.{spe, halt}
-use Rattle.qspi.specs.Registers.{spcr2Bits}
-use Rattle.qsm.specs.Map.{decode}
-use Rattle.qsm.specs.Queue.{putQueue, queueUnmodelled, queueGuarded}
-use Rattle.qsm.specs.Word.{put, unmodelled, guarded}
-use Rattle.qsm.specs.Event.{does}
+use Rattle.qspi.specs.model.Fields.{spe, halt}
+use Rattle.qspi.specs.model.Registers.{spcr2Bits}
+use Rattle.qsm.specs.model.Map.{decode}
+use Rattle.qsm.specs.model.Queue.{putQueue, queueUnmodelled, queueGuarded}
+use Rattle.qsm.specs.model.Word.{put, unmodelled, guarded}
+use Rattle.qsm.specs.model.Event.{does}
 use Rattle.qsm.specs.declared.state.Module.{Module}
 use Rattle.qsm.specs.declared.event.Event.{Event}
 use Rattle.qsm.specs.declared.map.QueueWord.the-variants.{Spcr0, Spcr2}
 use Rattle.qsm.specs.declared.map.Place.the-variants.{Queue}
-use Rattle.planner.specs.Check.{sentNo}
-use Rattle.planner.specs.Accepted.{Accepted}
-use Rattle.planner.specs.Loading.{writing, entriesWritten, withPointers}
-use Rattle.planner.specs.Running.{played, Ready, Sized}
-use Rattle.planner.specs.declared.SetPoints.{SetPoints}
-use Rattle.planner.specs.declared.Plan.{Plan}
-use Rattle.planner.proofs.Meaning.{means}
-use Rattle.planner.proofs.Writing.{word-written}
-use Rattle.planner.proofs.Loaded.{Entries, entries-in}
-use Rattle.planner.proofs.Started.{bits-same}
+use Rattle.tool_plan.specs.Check.{sentNo}
+use Rattle.tool_plan.specs.Accepted.{Accepted}
+use Rattle.tool_plan.specs.Loading.{writing, entriesWritten, withPointers}
+use Rattle.tool_plan.specs.Running.{played, Ready, Sized}
+use Rattle.tool_plan.specs.declared.SetPoints.{SetPoints}
+use Rattle.tool_plan.specs.declared.Plan.{Plan}
+use Rattle.tool_plan.proofs.Meaning.{means}
+use Rattle.tool_plan.proofs.Writing.{word-written}
+use Rattle.tool_plan.proofs.Loaded.{Entries, entries-in}
+use Rattle.tool_plan.proofs.Started.{bits-same}
 use Rattle.claims_plans.specs.Standing.{Laid}
-use Rattle.claims_plans.specs.Claims.{allButLast, Lays, LoadLays}
+use Rattle.claims_plans.specs.Plans.{allButLast, Lays, LoadLays}
 
 -- A word of sixteen bits is its two bytes.
 pub two-bytes : (v : ℕ) → v < 65536 → word (upperByte v) (lowerByte v) ≡ v

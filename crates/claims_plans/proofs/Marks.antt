@@ -3,11 +3,11 @@ use mathlib.Core.Path.{_≡_, refl, ap, _∙_}
 use mathlib.Core.Bool.{Bool, true, false}
 use Prim.Native.Nat.{ℕ, zero, suc, _+_, _*_, _%_}
 use lib.Dec.{leb}
-use Rattle.qspi.specs.Fields.{spe, bitsOf}
-use Rattle.qspi.specs.Parts.{withEntry, withSpsr}
-use Rattle.qspi.specs.Entry.{edgeFallen}
-use Rattle.qspi.specs.Queue.{begun, stored, isLast, wraps, followed, completed, judged, edge, counted, playClock, delayed, delayClock, ready, startIf, startClock, clockAt, clockIf, queueClock, misoOf, faultNow, faulted, clock}
-use Rattle.qspi.specs.Run.{run}
+use Rattle.qspi.specs.model.Fields.{spe, bitsOf}
+use Rattle.qspi.specs.model.Parts.{withEntry, withSpsr}
+use Rattle.qspi.specs.model.Entry.{edgeFallen}
+use Rattle.qspi.specs.model.Queue.{begun, stored, isLast, wraps, followed, completed, judged, edge, counted, playClock, delayed, delayClock, ready, startIf, startClock, clockAt, clockIf, queueClock, misoOf, faultNow, faulted, clock}
+use Rattle.qspi.specs.claims.Run.{run}
 use Rattle.qspi.specs.declared.Qspi.{Qspi}
 use Rattle.qspi.specs.declared.Pins.{Pins}
 use Rattle.qspi.specs.declared.spsr.Flags.{Flags}

@@ -7,27 +7,27 @@ use native.Mathlib.Omega.{arith}
 use lib.ListN.{getD}
 use Rattle.steps.specs.Bits.{bit}
 use Rattle.steps.specs.Iterate.{iterate}
-use Rattle.qspi.specs.Fields.{mstr, spe}
-use Rattle.qspi.specs.Registers.{reset, writeSpcr1}
-use Rattle.qspi.specs.Queue.{selected, faultNow}
-use Rattle.qsm.specs.Map.{decode}
-use Rattle.qsm.specs.Lanes.{inMap}
-use Rattle.qsm.specs.Own.{putOwn, ownUnmodelled}
-use Rattle.qsm.specs.Queue.{putQueue, queueUnmodelled, queueGuarded}
-use Rattle.qsm.specs.Word.{put, unmodelled, guarded}
-use Rattle.qsm.specs.Access.{store, stored}
-use Rattle.qsm.specs.Decision.{admitted, decideRead, storedBy, decideStored}
-use Rattle.qsm.specs.State.{resetModule}
-use Rattle.qsm.specs.Event.{pinsOf, held, clockModule, clocks, afterRead, holds, reads, writes, does}
-use Rattle.qsm.specs.PinClauses.{assigned}
+use Rattle.qspi.specs.model.Fields.{mstr, spe}
+use Rattle.qspi.specs.model.Registers.{reset, writeSpcr1}
+use Rattle.qspi.specs.model.Queue.{selected, faultNow}
+use Rattle.qsm.specs.model.Map.{decode}
+use Rattle.qsm.specs.model.Lanes.{inMap}
+use Rattle.qsm.specs.model.Own.{putOwn, ownUnmodelled}
+use Rattle.qsm.specs.model.Queue.{putQueue, queueUnmodelled, queueGuarded}
+use Rattle.qsm.specs.model.Word.{put, unmodelled, guarded}
+use Rattle.qsm.specs.model.Access.{store, stored}
+use Rattle.qsm.specs.model.Decision.{admitted, decideRead, storedBy, decideStored}
+use Rattle.qsm.specs.model.State.{resetModule}
+use Rattle.qsm.specs.model.Event.{pinsOf, held, clockModule, clocks, afterRead, holds, reads, writes, does}
+use Rattle.qsm.specs.claims.PinClauses.{assigned}
 use Rattle.qsm.specs.declared.state.Module.{Module}
 use Rattle.qsm.specs.declared.event.Access.the-variants.{Read}
 use Rattle.qsm.specs.declared.event.Event.the-variants.{Hold}
 use Rattle.qsm.specs.declared.event.Event.the-variants as event
-use Rattle.planner.specs.Check.{commandNo, sentNo}
-use Rattle.planner.specs.Loading.{placeNo}
-use Rattle.planner.specs.Running.{played}
-use Rattle.planner.specs.Example.{byHand}
+use Rattle.tool_plan.specs.Check.{commandNo, sentNo}
+use Rattle.tool_plan.specs.Loading.{placeNo}
+use Rattle.tool_plan.specs.Running.{played}
+use Rattle.tool_plan.specs.Example.{byHand}
 use Rattle.claims_plans.specs.Watching.{Watched}
 use Rattle.claims_plans.specs.Converter.{Wired}
 use Rattle.claims_plans.specs.Example.{begun, polling, Example}

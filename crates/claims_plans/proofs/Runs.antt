@@ -6,14 +6,14 @@ use native.Mathlib.Omega.{arith}
 use lib.Dec.{ltb, leb}
 use borrow.Author.Tests.{lt-ltb, le-leb}
 use Rattle.steps.specs.Bits.{bit}
-use Rattle.qspi.specs.Fields.{mstr, cpol, cpha, spe, spbr, wren, endqp, newqp}
-use Rattle.qspi.specs.Outputs.{sck, pcs}
-use Rattle.qspi.specs.Run.{run}
+use Rattle.qspi.specs.model.Fields.{mstr, cpol, cpha, spe, spbr, wren, endqp, newqp}
+use Rattle.qspi.specs.model.Outputs.{sck, pcs}
+use Rattle.qspi.specs.claims.Run.{run}
 use Rattle.qspi.specs.declared.Qspi.{Qspi}
 use Rattle.qspi.specs.declared.Pins.{Pins}
-use Rattle.qsm.specs.Decision.{admitted, decideRead}
-use Rattle.qsm.specs.Event.{answerOf, refused, reads, does, step}
-use Rattle.qsm.specs.PinClauses.{SPE, assigned, high, DrivenAt, OutputAt, PinClauses}
+use Rattle.qsm.specs.model.Decision.{admitted, decideRead}
+use Rattle.qsm.specs.model.Event.{answerOf, refused, reads, does, step}
+use Rattle.qsm.specs.claims.PinClauses.{SPE, assigned, high, DrivenAt, OutputAt, PinClauses}
 use Rattle.qsm.specs.declared.state.Module.{Module}
 use Rattle.qsm.specs.declared.event.Access.the-variants.{Read}
 use Rattle.qsm.specs.declared.event.Event.the-variants as event
@@ -21,16 +21,16 @@ use Rattle.qsm.proofs.Booleans.{on}
 use Rattle.qsm.proofs.PinClauses.{pins}
 use Rattle.qsm.proofs.Reading.{spcr1-read}
 use Rattle.qsm.proofs.StatusFlags.{spif-read}
-use Rattle.planner.specs.Check.{bitsNo, wordNo}
-use Rattle.planner.specs.Accepted.{Accepted}
-use Rattle.planner.specs.Running.{played, startOf, edgeNo, Within, readIn, Does}
-use Rattle.planner.specs.declared.SetPoints.{SetPoints}
-use Rattle.planner.specs.declared.Plan.{Plan}
-use Rattle.planner.proofs.Started.{Started}
-use Rattle.planner.proofs.Clocking.{spif-at, enabled-at}
-use Rattle.planner.proofs.AtEntry.{AtEntry, at-entry}
-use Rattle.planner.proofs.Sending.{Shows, shows, bit-read, read-in}
-use Rattle.planner.proofs.Resting.{rests, early}
+use Rattle.tool_plan.specs.Check.{bitsNo, wordNo}
+use Rattle.tool_plan.specs.Accepted.{Accepted}
+use Rattle.tool_plan.specs.Running.{played, startOf, edgeNo, Within, readIn, Does}
+use Rattle.tool_plan.specs.declared.SetPoints.{SetPoints}
+use Rattle.tool_plan.specs.declared.Plan.{Plan}
+use Rattle.tool_plan.proofs.Started.{Started}
+use Rattle.tool_plan.proofs.Clocking.{spif-at, enabled-at}
+use Rattle.tool_plan.proofs.AtEntry.{AtEntry, at-entry}
+use Rattle.tool_plan.proofs.Sending.{Shows, shows, bit-read, read-in}
+use Rattle.tool_plan.proofs.Resting.{rests, early}
 use Rattle.claims_plans.specs.Watching.{clocksIn}
 use Rattle.claims_plans.specs.Standing.{Laid, RunsPlan}
 use Rattle.claims_plans.proofs.Marks.{marked}

@@ -7,11 +7,11 @@ use native.Mathlib.Omega.{arith}
 use lib.Dec.{leb}
 use borrow.Author.Tests.{le-leb, lt-leb, leb-true, leb-false}
 use Rattle.steps.specs.Iterate.{iterate}
-use Rattle.sci.specs.Serial.{clocked}
-use Rattle.qspi.specs.Fields.{mstr, spe}
-use Rattle.qspi.specs.Queue.{followed, selected, faultNow, clock}
-use Rattle.qspi.specs.Run.{run}
-use Rattle.qspi.specs.Laws.{Calm}
+use Rattle.sci.specs.model.Serial.{clocked}
+use Rattle.qspi.specs.model.Fields.{mstr, spe}
+use Rattle.qspi.specs.model.Queue.{followed, selected, faultNow, clock}
+use Rattle.qspi.specs.claims.Run.{run}
+use Rattle.qspi.specs.claims.Laws.{Calm}
 use Rattle.qspi.specs.declared.Qspi.{Qspi}
 use Rattle.qspi.specs.declared.Pins.{Pins}
 use Rattle.qspi.specs.declared.spsr.Flags.{Flags}
@@ -19,11 +19,11 @@ use Rattle.qspi.proofs.Edges.{hold-runs}
 use Rattle.qspi.proofs.Delay.{run-add}
 use Rattle.qspi.proofs.Quiet.{clock-off}
 use Rattle.qspi.proofs.Cases.{clock-by}
-use Rattle.qsm.specs.Lanes.{touches}
-use Rattle.qsm.specs.Queue.{queueRead}
-use Rattle.qsm.specs.State.{withSci, withQspi}
-use Rattle.qsm.specs.Decision.{permits, decideRead}
-use Rattle.qsm.specs.Event.{passes, pinsOf, held, clocks, afterRead, readValue, refused, reads, does}
+use Rattle.qsm.specs.model.Lanes.{touches}
+use Rattle.qsm.specs.model.Queue.{queueRead}
+use Rattle.qsm.specs.model.State.{withSci, withQspi}
+use Rattle.qsm.specs.model.Decision.{permits, decideRead}
+use Rattle.qsm.specs.model.Event.{passes, pinsOf, held, clocks, afterRead, readValue, refused, reads, does}
 use Rattle.qsm.specs.declared.state.Module.{Module}
 use Rattle.qsm.specs.declared.event.Access.the-variants.{Read, Write}
 use Rattle.qsm.specs.declared.event.Event.{Event}
@@ -34,7 +34,7 @@ use Rattle.qsm.proofs.Booleans.{on, clash}
 use Rattle.qsm.proofs.Clocks.{counting, apart}
 use Rattle.qsm.proofs.Limit.{hold-played}
 use Rattle.qsm.proofs.Stored.{state-if}
-use Rattle.planner.specs.Running.{played}
+use Rattle.tool_plan.specs.Running.{played}
 use Rattle.claims_plans.specs.Watching.{clocksOf, clocksIn, Watches, Watched}
 use Rattle.claims_plans.proofs.Marks.{marked, run-marked}
 

@@ -5,16 +5,16 @@ use mathlib.Core.Bool.{Bool, true, false, cond, not, _&&_}
 use mathlib.Core.List.{List}
 use Prim.Native.Nat.{ℕ, zero, suc, _+_, _*_, _%_, _^_, _≤_, _<_}
 use Rattle.steps.specs.Bits.{bit, digit}
-use Rattle.qspi.specs.Fields.{cpol, cpha}
-use Rattle.qsm.specs.Event.{answerOf}
-use Rattle.qsm.specs.PinClauses.{assigned, high}
+use Rattle.qspi.specs.model.Fields.{cpol, cpha}
+use Rattle.qsm.specs.model.Event.{answerOf}
+use Rattle.qsm.specs.claims.PinClauses.{assigned, high}
 use Rattle.qsm.specs.declared.state.Module.{Module}
 use Rattle.qsm.specs.declared.event.Answer.{Answer}
 use Rattle.qsm.specs.declared.event.Event.{Event}
-use Rattle.planner.specs.Check.{selectNo, bitsNo, wordNo}
-use Rattle.planner.specs.Running.{startOf, edgeNo}
-use Rattle.planner.specs.declared.SetPoints.{SetPoints}
-use Rattle.planner.specs.declared.Plan.{Plan}
+use Rattle.tool_plan.specs.Check.{selectNo, bitsNo, wordNo}
+use Rattle.tool_plan.specs.Running.{startOf, edgeNo}
+use Rattle.tool_plan.specs.declared.SetPoints.{SetPoints}
+use Rattle.tool_plan.specs.declared.Plan.{Plan}
 use Rattle.claims_plans.specs.Watching.{clocksIn, Watched}
 use Rattle.claims_plans.specs.Moments.{moment}
 

@@ -3,16 +3,16 @@
 use mathlib.Core.Path.{_≡_}
 use mathlib.Core.Bool.{true, false}
 use mathlib.Core.List.{List, [], _∷_}
-use Rattle.qspi.specs.Fields.{spe}
-use Rattle.qsm.specs.Event.{does}
+use Rattle.qspi.specs.model.Fields.{spe}
+use Rattle.qsm.specs.model.Event.{does}
 use Rattle.qsm.specs.declared.state.Module.{Module}
 use Rattle.qsm.specs.declared.event.Access.the-variants.{Read, Write}
 use Rattle.qsm.specs.declared.event.Event.{Event}
 use Rattle.qsm.specs.declared.event.Event.the-variants.{Hold}
 use Rattle.qsm.specs.declared.event.Event.the-variants as event
-use Rattle.planner.specs.Loading.{writing}
-use Rattle.planner.specs.Running.{played}
-use Rattle.planner.specs.Example.{byHand, set-up}
+use Rattle.tool_plan.specs.Loading.{writing}
+use Rattle.tool_plan.specs.Running.{played}
+use Rattle.tool_plan.specs.Example.{byHand, set-up}
 use Rattle.claims_plans.specs.Watching.{Watched}
 use Rattle.claims_plans.specs.Standing.{Laid}
 use Rattle.claims_plans.specs.Converter.{Wired, Parked}

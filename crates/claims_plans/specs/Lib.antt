@@ -2,6 +2,6 @@ pub mod Watching
 pub mod Moments
 pub mod Standing
 pub mod Converter
-pub mod Claims
+pub mod Plans
 pub mod Example
-pub mod Shown
+pub mod Claims

@@ -8,7 +8,7 @@ use Rattle.qsm.specs.declared.state.Module.{Module}
 use Rattle.qsm.specs.declared.event.Event.{Event}
 use Rattle.qsm.specs.declared.event.Event.the-variants.{Reset, Hold}
 use Rattle.qsm.specs.declared.event.Event.the-variants as event
-use Rattle.planner.specs.Running.{played}
+use Rattle.tool_plan.specs.Running.{played}
 use Rattle.claims_plans.specs.Watching.{clocksIn, Watched}
 
 -- The events of the first c clocks: a hold that goes on past them is cut.

@@ -6,16 +6,16 @@ use Prim.Native.Nat.{ℕ, _<_}
 use lib.Dec.{leb}
 use lib.ListN.{getD}
 use Rattle.steps.specs.Bits.{bit}
-use Rattle.qspi.specs.Fields.{halt}
-use Rattle.qsm.specs.PinClauses.{assigned}
-use Rattle.qsm.specs.StatusFlags.{SPIF, isSet}
+use Rattle.qspi.specs.model.Fields.{halt}
+use Rattle.qsm.specs.claims.PinClauses.{assigned}
+use Rattle.qsm.specs.claims.StatusFlags.{SPIF, isSet}
 use Rattle.qsm.specs.declared.state.Module.{Module}
 use Rattle.qsm.specs.declared.event.Event.{Event}
-use Rattle.planner.specs.Check.{commandNo, sentNo}
-use Rattle.planner.specs.Loading.{placeNo, withPointers}
-use Rattle.planner.specs.Running.{played, Does}
-use Rattle.planner.specs.declared.SetPoints.{SetPoints}
-use Rattle.planner.specs.declared.Plan.{Plan}
+use Rattle.tool_plan.specs.Check.{commandNo, sentNo}
+use Rattle.tool_plan.specs.Loading.{placeNo, withPointers}
+use Rattle.tool_plan.specs.Running.{played, Does}
+use Rattle.tool_plan.specs.declared.SetPoints.{SetPoints}
+use Rattle.tool_plan.specs.declared.Plan.{Plan}
 use Rattle.claims_plans.specs.Watching.{clocksIn, Watched}
 
 -- A module in which the plan's entries, SPCR0 and SPCR2 stand, with SPIF and HALT clear and MOSI an assigned output. Nothing is said of how

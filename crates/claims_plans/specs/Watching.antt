@@ -3,8 +3,8 @@ use mathlib.Core.Path.{_≡_}
 use mathlib.Core.Bool.{false}
 use mathlib.Core.List.{List, [], _∷_}
 use Prim.Native.Nat.{ℕ, _+_, _<_}
-use Rattle.qspi.specs.Queue.{faultNow}
-use Rattle.qsm.specs.Event.{passes, pinsOf, held, does}
+use Rattle.qspi.specs.model.Queue.{faultNow}
+use Rattle.qsm.specs.model.Event.{passes, pinsOf, held, does}
 use Rattle.qsm.specs.declared.state.Module.{Module}
 use Rattle.qsm.specs.declared.event.Access.the-variants.{Read, Write}
 use Rattle.qsm.specs.declared.event.Event.{Event}

@@ -9,8 +9,8 @@ use lib.ListN.{length}
 use lib.Bits.{shifted-half}
 use lib.Pow.{pow-add}
 use Rattle.steps.specs.Bits.{digit}
-use Rattle.sci.specs.Framer.{collected}
-use Rattle.sci.specs.Levels.{value}
+use Rattle.sci.specs.model.Framer.{collected}
+use Rattle.sci.specs.claims.Levels.{value}
 use Rattle.claims_senders.specs.Fair.{Bit, Count, NotEarly, NotLate, Each, longer, dataOf}
 use Rattle.claims_senders.proofs.Zeros.{InBounds}
 

@@ -7,11 +7,11 @@ use native.Mathlib.Omega.{arith}
 use native.Mathlib.Nat.{mul-le-mul-right}
 use lib.Dec.{leb}
 use borrow.Author.Tests.{leb-true, leb-false}
-use Rattle.sci.specs.Control.{SCBR, RE, M, bitsOf}
-use Rattle.sci.specs.Framer.{searching, ends}
-use Rattle.sci.specs.Receiver.{entered}
-use Rattle.sci.specs.Serial.{active, due, clocked}
-use Rattle.sci.specs.History.{Step, reset, clock, reads, writesSccr0, writesSccr1, writesScdr, step}
+use Rattle.sci.specs.model.Control.{SCBR, RE, M, bitsOf}
+use Rattle.sci.specs.model.Framer.{searching, ends}
+use Rattle.sci.specs.model.Receiver.{entered}
+use Rattle.sci.specs.model.Serial.{active, due, clocked}
+use Rattle.sci.specs.claims.History.{Step, reset, clock, reads, writesSccr0, writesSccr1, writesScdr, step}
 use Rattle.sci.specs.declared.framer.Framer.{Framer}
 use Rattle.sci.specs.declared.framer.Frame.{Frame}
 use Rattle.sci.specs.declared.serial.Sci.{Sci}

@@ -5,8 +5,8 @@ use Prim.Native.Nat.{ℕ, suc, _+_, _-_, _*_, _%_, _≤_, _<_}
 use native.Mathlib.Omega.{arith}
 use lib.Dec.{eqb, leb}
 use borrow.Author.Tests.{eqb-true, eqb-false, leb-true, ne-eqb, eq-eqb}
-use Rattle.sci.specs.Bits.{vote}
-use Rattle.sci.specs.Framer.{more, ends, collected, startBit, dataBit, stopBit, inBit, fixed}
+use Rattle.sci.specs.model.Bits.{vote}
+use Rattle.sci.specs.model.Framer.{more, ends, collected, startBit, dataBit, stopBit, inBit, fixed}
 use Rattle.sci.specs.declared.framer.Framer.{Framer}
 use Rattle.sci.proofs.Membership.{and-right}
 use Rattle.sci.proofs.Frames.{by-cond}

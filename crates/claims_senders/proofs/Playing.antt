@@ -5,8 +5,8 @@ use mathlib.Core.List.{List, [], _∷_}
 use Prim.Native.Nat.{ℕ, _+_, _*_}
 use lib.Dec.{leb}
 use borrow.Author.Tests.{leb-true}
-use Rattle.sci.specs.Framer.{startBit, dataBit, stopBit, fixed, framed}
-use Rattle.sci.specs.Levels.{value}
+use Rattle.sci.specs.model.Framer.{startBit, dataBit, stopBit, fixed, framed}
+use Rattle.sci.specs.claims.Levels.{value}
 use Rattle.sci.proofs.Membership.{and-left, and-right}
 use Rattle.claims_senders.specs.Fair.{Bit, Count, EarlyBy, LateBy, Each, longer, following, FairBy, SentFrame, rest, FrameBy, FairFrames, levels, line, dataOf}
 use Rattle.claims_senders.specs.Heard.{endedIn}

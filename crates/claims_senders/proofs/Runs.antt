@@ -7,7 +7,7 @@ use native.Mathlib.Omega.{arith}
 use lib.Dec.{eqb, leb, ltb}
 use lib.ListN.{replicate, replicate-append-replicate}
 use borrow.Author.Tests.{eqb-true, eqb-false, leb-true}
-use Rattle.sci.specs.Framer.{searching, ends, frameOf, collected, startBit, stopBit, fixed, nextRt, nearNext, nearThis, afterOne, earlyFall, lateFall, adjusts, adjusted, framed}
+use Rattle.sci.specs.model.Framer.{searching, ends, frameOf, collected, startBit, stopBit, fixed, nextRt, nearNext, nearThis, afterOne, earlyFall, lateFall, adjusts, adjusted, framed}
 use Rattle.sci.specs.declared.framer.Framer.{Framer}
 use Rattle.sci.proofs.Membership.{and-left, and-right}
 use Rattle.sci.proofs.Frames.{by-cond, adjusting}

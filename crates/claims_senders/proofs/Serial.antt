@@ -7,12 +7,12 @@ use native.Mathlib.Omega.{arith}
 use lib.Dec.{eqb, leb, lit<}
 use borrow.Author.Tests.{eqb-true, eqb-false, leb-false, ne-eqb}
 use Rattle.steps.specs.Bits.{merge}
-use Rattle.sci.specs.Control.{SCBR, TE, RE, M, bitsOf, sccr0Bits, sccr1Bits}
-use Rattle.sci.specs.Framer.{searching, ends, frameOf, fixed, framed}
-use Rattle.sci.specs.Receiver.{outcome, receiverAfter, received}
-use Rattle.sci.specs.Transmitter.{sent, runs}
-use Rattle.sci.specs.Serial.{active, due, sampled, clocked, sccr1Word, withSccr1, stopped, wroteSccr0, wroteSccr1, sccr0Guarded, sccr1Guarded, dataWritten}
-use Rattle.sci.specs.History.{Step, reset, clock, reads, writesSccr0, writesSccr1, writesScdr, step, run}
+use Rattle.sci.specs.model.Control.{SCBR, TE, RE, M, bitsOf, sccr0Bits, sccr1Bits}
+use Rattle.sci.specs.model.Framer.{searching, ends, frameOf, fixed, framed}
+use Rattle.sci.specs.model.Receiver.{outcome, receiverAfter, received}
+use Rattle.sci.specs.model.Transmitter.{sent, runs}
+use Rattle.sci.specs.model.Serial.{active, due, sampled, clocked, sccr1Word, withSccr1, stopped, wroteSccr0, wroteSccr1, sccr0Guarded, sccr1Guarded, dataWritten}
+use Rattle.sci.specs.claims.History.{Step, reset, clock, reads, writesSccr0, writesSccr1, writesScdr, step, run}
 use Rattle.sci.specs.declared.framer.Framer.{Framer}
 use Rattle.sci.specs.declared.framer.Frame.{Frame}
 use Rattle.sci.specs.declared.serial.Sci.{Sci}

@@ -5,7 +5,7 @@ use mathlib.Core.List.{List, [], _∷_, _++_, append-assoc}
 use Prim.Native.Nat.{ℕ, suc, _+_, _-_, _*_, _≤_, _<_}
 use native.Mathlib.Omega.{arith}
 use lib.ListN.{length, replicate, length-append, length-replicate}
-use Rattle.sci.specs.Framer.{searching}
+use Rattle.sci.specs.model.Framer.{searching}
 use Rattle.sci.specs.declared.framer.Framer.{Framer}
 use Rattle.claims_senders.specs.Fair.{Bit, Count, NotEarly, NotLate, Each, longer, FairBy, Fair, SentFrame, FairFrame, rest, levels, levelsOf, dataOf, wordOf}
 use Rattle.claims_senders.specs.Heard.{endedIn, earliest, latest}

@@ -6,16 +6,16 @@ use Prim.Native.Nat.{ℕ, _+_, _*_, _/_, _%_, _^_}
 use native.Mathlib.Omega.{arith}
 use lib.Dec.{eqb, leb, ltb}
 use Rattle.steps.specs.Bits.{merge}
-use Rattle.sci.specs.Bits.{parityBit}
-use Rattle.sci.specs.Flags.{NF, RAF, transmitFlags}
-use Rattle.sci.specs.Members.{member}
-use Rattle.sci.specs.Status.{has}
-use Rattle.sci.specs.Control.{SCBR, RE, PT, PE, sccr0Bits, settings}
-use Rattle.sci.specs.Framer.{ends, frameOf}
-use Rattle.sci.specs.Receiver.{outcome, received, receiverAfter}
-use Rattle.sci.specs.Transmitter.{sent}
-use Rattle.sci.specs.Serial.{clocked, sccr1Word, withSccr0, withSccr1, stopped, wroteSccr0, wroteSccr1, sccr0Guarded, sccr1Guarded, dataWritten}
-use Rattle.sci.specs.History.{Step, reset, clock, reads, writesSccr0, writesSccr1, writesScdr, step}
+use Rattle.sci.specs.model.Bits.{parityBit}
+use Rattle.sci.specs.model.Flags.{NF, RAF, transmitFlags}
+use Rattle.sci.specs.claims.Members.{member}
+use Rattle.sci.specs.model.Status.{has}
+use Rattle.sci.specs.model.Control.{SCBR, RE, PT, PE, sccr0Bits, settings}
+use Rattle.sci.specs.model.Framer.{ends, frameOf}
+use Rattle.sci.specs.model.Receiver.{outcome, received, receiverAfter}
+use Rattle.sci.specs.model.Transmitter.{sent}
+use Rattle.sci.specs.model.Serial.{clocked, sccr1Word, withSccr0, withSccr1, stopped, wroteSccr0, wroteSccr1, sccr0Guarded, sccr1Guarded, dataWritten}
+use Rattle.sci.specs.claims.History.{Step, reset, clock, reads, writesSccr0, writesSccr1, writesScdr, step}
 use Rattle.sci.specs.declared.framer.Frame.{Frame}
 use Rattle.sci.specs.declared.status.Status.{Status}
 use Rattle.sci.specs.declared.receiver.Outcome.{Outcome}

@@ -5,14 +5,14 @@ use mathlib.Core.List.{List, [], _∷_}
 use Prim.Native.Nat.{ℕ, suc, _+_, _*_, _≤_}
 use lib.Dec.{eqb, leb}
 use Rattle.steps.specs.Bits.{merge}
-use Rattle.sci.specs.Flags.{RAF, transmitFlags}
-use Rattle.sci.specs.Members.{member}
-use Rattle.sci.specs.Control.{SCBR, RE, M, bitsOf, sccr0Bits}
-use Rattle.sci.specs.Framer.{ends, frameOf}
-use Rattle.sci.specs.Receiver.{takes, full, outcome, received, receiverAfter}
-use Rattle.sci.specs.Transmitter.{sent}
-use Rattle.sci.specs.Serial.{sccr1Word, withSccr1, stopped, wroteSccr0, wroteSccr1, sccr0Guarded, sccr1Guarded, dataWritten}
-use Rattle.sci.specs.History.{clock, writesSccr0, writesSccr1, step, sampling}
+use Rattle.sci.specs.model.Flags.{RAF, transmitFlags}
+use Rattle.sci.specs.claims.Members.{member}
+use Rattle.sci.specs.model.Control.{SCBR, RE, M, bitsOf, sccr0Bits}
+use Rattle.sci.specs.model.Framer.{ends, frameOf}
+use Rattle.sci.specs.model.Receiver.{takes, full, outcome, received, receiverAfter}
+use Rattle.sci.specs.model.Transmitter.{sent}
+use Rattle.sci.specs.model.Serial.{sccr1Word, withSccr1, stopped, wroteSccr0, wroteSccr1, sccr0Guarded, sccr1Guarded, dataWritten}
+use Rattle.sci.specs.claims.History.{clock, writesSccr0, writesSccr1, step, sampling}
 use Rattle.sci.specs.declared.framer.Framer.{Framer}
 use Rattle.sci.specs.declared.status.Status.{Status}
 use Rattle.sci.specs.declared.receiver.Outcome.{Outcome}

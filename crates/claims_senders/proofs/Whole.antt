@@ -5,7 +5,7 @@ use mathlib.Core.List.{List, [], _∷_, _++_}
 use Prim.Native.Nat.{ℕ, _+_, _≤_}
 use native.Mathlib.Omega.{arith}
 use lib.ListN.{length}
-use Rattle.sci.specs.Framer.{searching}
+use Rattle.sci.specs.model.Framer.{searching}
 use Rattle.claims_senders.specs.Fair.{SentFrame, FairFrames, levelsOf, wordOf, line}
 use Rattle.claims_senders.specs.Heard.{Ended, endedIn, frames, samples, asSent, earliest, EndInTime, Apart, FramesHeard}
 use Rattle.claims_senders.proofs.Through.{Comes, frame-heard}

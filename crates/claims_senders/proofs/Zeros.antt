@@ -5,7 +5,7 @@ use mathlib.Core.List.{List, _∷_, _++_}
 use Prim.Native.Nat.{ℕ, zero, suc, _+_, _-_, _*_, _/_, _≤_, _<_}
 use native.Mathlib.Omega.{arith}
 use lib.ListN.{replicate}
-use Rattle.sci.specs.Framer.{searching, framed}
+use Rattle.sci.specs.model.Framer.{searching, framed}
 use Rattle.sci.specs.declared.framer.Framer.{Framer}
 use Rattle.claims_senders.specs.Heard.{endedIn}
 use Rattle.claims_senders.proofs.Inside.{inStart, Inside, early, late, not-last}

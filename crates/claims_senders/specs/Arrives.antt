@@ -3,9 +3,9 @@ use mathlib.Core.Bool.{false}
 use mathlib.Core.List.{List, [], _∷_}
 use mathlib.Core.Path.{_≡_}
 use Prim.Native.Nat.{ℕ, suc, _*_}
-use Rattle.sci.specs.Control.{SCBR, M, bitsOf}
-use Rattle.sci.specs.History.{Step}
-use Rattle.sci.specs.Overrun.{Mark, frameLost, wordCame, statusRead, wordDelivered, wasReset, log}
+use Rattle.sci.specs.model.Control.{SCBR, M, bitsOf}
+use Rattle.sci.specs.claims.History.{Step}
+use Rattle.sci.specs.claims.Overrun.{Mark, frameLost, wordCame, statusRead, wordDelivered, wasReset, log}
 use Rattle.sci.specs.declared.serial.Sci.{Sci}
 use Rattle.claims_senders.specs.Fair.{SentFrame, wordOf, line, FairFrames}
 use Rattle.claims_senders.specs.Heard.{earliest}

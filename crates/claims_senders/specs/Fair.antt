@@ -5,7 +5,7 @@ use mathlib.Core.List.{List, [], _∷_, _++_}
 use mathlib.Core.Path.{_≡_}
 use Prim.Native.Nat.{ℕ, suc, _+_, _*_, _≤_}
 use lib.ListN.{replicate, length}
-use Rattle.sci.specs.Levels.{value}
+use Rattle.sci.specs.claims.Levels.{value}
 
 -- A bit's level and how long it lasts.
 pub record Bit : Type 0 where

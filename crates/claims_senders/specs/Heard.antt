@@ -4,7 +4,7 @@ use mathlib.Core.List.{List, [], _∷_}
 use mathlib.Core.Path.{_≡_}
 use Prim.Native.Nat.{ℕ, suc, _+_, _*_, _≤_}
 use lib.ListN.{length}
-use Rattle.sci.specs.Framer.{searching, ends, frameOf, framed}
+use Rattle.sci.specs.model.Framer.{searching, ends, frameOf, framed}
 use Rattle.sci.specs.declared.framer.Framer.{Framer}
 use Rattle.sci.specs.declared.framer.Frame.{Frame}
 use Rattle.claims_senders.specs.Fair.{SentFrame, wordOf, levelsOf, line, FairFrames}

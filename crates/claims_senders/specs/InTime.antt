@@ -4,11 +4,11 @@ use mathlib.Core.List.{List, [], _∷_, _++_}
 use mathlib.Core.Path.{_≡_}
 use Prim.Native.Nat.{ℕ, suc, _*_, _<_}
 use lib.ListN.{take, drop}
-use Rattle.sci.specs.Control.{SCBR, M, bitsOf}
-use Rattle.sci.specs.Framer.{frameOf}
-use Rattle.sci.specs.Receiver.{full, outcome}
-use Rattle.sci.specs.Transmitter.{sent}
-use Rattle.sci.specs.History.{Step, reset, clock, reads, writesSccr0, writesSccr1, writesScdr, step, sampling}
+use Rattle.sci.specs.model.Control.{SCBR, M, bitsOf}
+use Rattle.sci.specs.model.Framer.{frameOf}
+use Rattle.sci.specs.model.Receiver.{full, outcome}
+use Rattle.sci.specs.model.Transmitter.{sent}
+use Rattle.sci.specs.claims.History.{Step, reset, clock, reads, writesSccr0, writesSccr1, writesScdr, step, sampling}
 use Rattle.sci.specs.declared.framer.Frame.{Frame}
 use Rattle.sci.specs.declared.receiver.Outcome.{Outcome}
 use Rattle.sci.specs.declared.serial.Sci.{Sci}

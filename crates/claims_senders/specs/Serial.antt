@@ -3,12 +3,12 @@ use mathlib.Core.Bool.{Bool, true, false, cond, _&&_}
 use mathlib.Core.List.{List, [], _∷_, _++_}
 use mathlib.Core.Path.{_≡_}
 use Prim.Native.Nat.{_*_, _^_, _<_}
-use Rattle.sci.specs.Control.{SCBR, RE, M, bitsOf}
-use Rattle.sci.specs.Framer.{searching, frameOf}
-use Rattle.sci.specs.Receiver.{outcome}
-use Rattle.sci.specs.Transmitter.{sent}
-use Rattle.sci.specs.History.{Step, reset, clock, reads, writesSccr0, writesSccr1, writesScdr, step, run, sampling}
-use Rattle.sci.specs.Serial.{resetSci}
+use Rattle.sci.specs.model.Control.{SCBR, RE, M, bitsOf}
+use Rattle.sci.specs.model.Framer.{searching, frameOf}
+use Rattle.sci.specs.model.Receiver.{outcome}
+use Rattle.sci.specs.model.Transmitter.{sent}
+use Rattle.sci.specs.claims.History.{Step, reset, clock, reads, writesSccr0, writesSccr1, writesScdr, step, run, sampling}
+use Rattle.sci.specs.model.Serial.{resetSci}
 use Rattle.sci.specs.declared.framer.Frame.{Frame}
 use Rattle.sci.specs.declared.serial.Sci.{Sci}
 use Rattle.claims_senders.specs.Fair.{SentFrame, line, FairFrames}

@@ -3,11 +3,11 @@ use mathlib.Core.Bool.{false, _&&_}
 use mathlib.Core.List.{List, [], _∷_}
 use mathlib.Core.Path.{_≡_}
 use Prim.Native.Nat.{ℕ, _*_}
-use Rattle.sci.specs.Bits.{parityBit}
-use Rattle.sci.specs.Flags.{PF, FE, NF}
-use Rattle.sci.specs.Status.{has}
-use Rattle.sci.specs.Control.{SCBR, PT, PE, M, bitsOf}
-use Rattle.sci.specs.History.{Step, step}
+use Rattle.sci.specs.model.Bits.{parityBit}
+use Rattle.sci.specs.model.Flags.{PF, FE, NF}
+use Rattle.sci.specs.model.Status.{has}
+use Rattle.sci.specs.model.Control.{SCBR, PT, PE, M, bitsOf}
+use Rattle.sci.specs.claims.History.{Step, step}
 use Rattle.sci.specs.declared.serial.Sci.{Sci}
 use Rattle.claims_senders.specs.Fair.{SentFrame, wordOf, line, FairFrames}
 use Rattle.claims_senders.specs.Serial.{rxdIn, StaysOn, Ready}

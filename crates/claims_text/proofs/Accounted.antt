@@ -8,17 +8,17 @@ use native.Mathlib.Omega.{arith}
 use lib.Dec.{eqb, ltb}
 use lib.ListN.{length, length-append}
 use borrow.Author.Tests.{ltb-true, ltb-false, lt-ltb, le-ltb}
-use Rattle.gatherer.specs.Gather.{Report, handed, dropped, most, tooLong}
-use Rattle.provenance.specs.Happened.{Damage, Happening, frameLost, wordCame, statusRead, wordDelivered, wasReset}
-use Rattle.provenance.specs.Segment.{ends, numbered, orElse, damaged}
-use Rattle.provenance.specs.Witness.{read}
-use Rattle.provenance.specs.Witness as played
-use Rattle.provenance.proofs.Recorded.{met}
-use Rattle.provenance.proofs.Account.{Account, fresh, closing, growing, came, counted, report, next, tells, account, InTurn}
-use Rattle.gatherer.specs.Replay.{lines}
-use Rattle.provenance.specs.Claims.{heard}
-use Rattle.provenance.proofs.Stands.{Done}
-use Rattle.provenance.proofs.Lines.{by-account}
+use Rattle.tool_lines.specs.Gather.{Report, handed, dropped, most, tooLong}
+use Rattle.claims_lines.specs.Happened.{Damage, Happening, frameLost, wordCame, statusRead, wordDelivered, wasReset}
+use Rattle.claims_lines.specs.Segment.{ends, numbered, orElse, damaged}
+use Rattle.claims_lines.specs.Witness.{read}
+use Rattle.claims_lines.specs.Witness as played
+use Rattle.claims_lines.proofs.Recorded.{met}
+use Rattle.claims_lines.proofs.Account.{Account, fresh, closing, growing, came, counted, report, next, tells, account, InTurn}
+use Rattle.tool_lines.specs.Replay.{lines}
+use Rattle.claims_lines.specs.Claims.{heard}
+use Rattle.claims_lines.proofs.Stands.{Done}
+use Rattle.claims_lines.proofs.Lines.{by-account}
 use Rattle.claims_text.specs.Lines.{lineReport, linesFrom, textLines, delivered, Clean, LinesOfWords, TextLines}
 
 abbrev why : List ℕ → ℕ

@@ -10,20 +10,20 @@ use lib.Dec.{eqb, ltb}
 use lib.ListN.{length, length-append, drop, replicate}
 use borrow.Author.Tests.{ne-eqb, le-ltb, ltb-true}
 use Rattle.steps.specs.Bits.{bit}
-use Rattle.qsm.specs.Event.{clockLimit}
+use Rattle.qsm.specs.model.Event.{clockLimit}
 use Rattle.qsm.specs.declared.event.Event.{Event}
 use Rattle.qsm.specs.declared.event.Event.the-variants.{Hold}
 use Rattle.trace.specs.Trace.{parsed, holdKind, longHoldKind}
 use Rattle.trace.specs.declared.Parsed.{Parsed}
 use Rattle.trace.specs.declared.Parsed.the-variants.{Record}
-use Rattle.gatherer.specs.Schedule.{Act, acts, stopped, followed, Scheduled, next, scheduledFor, scheduled}
-use Rattle.gatherer.proofs.Schedules.{unroll}
-use Rattle.assembler.specs.Encode.{recordBytes}
-use Rattle.assembler.specs.Sent.{frame, level, edge, bitClocks, holdKindOf, bitHold}
-use Rattle.assembler.specs.declared.sent.Sent.{Sent}
-use Rattle.assembled.specs.Laws.{Fits}
-use Rattle.assembled.specs.Traces.{framed, held, clocksOf}
-use Rattle.assembled.proofs.Records.{bytes-give-back}
+use Rattle.tool_lines.specs.Schedule.{Act, acts, stopped, followed, Scheduled, next, scheduledFor, scheduled}
+use Rattle.tool_lines.proofs.Schedules.{unroll}
+use Rattle.tool_assemble.specs.Encode.{recordBytes}
+use Rattle.tool_assemble.specs.Sent.{frame, level, edge, bitClocks, holdKindOf, bitHold}
+use Rattle.tool_assemble.specs.declared.sent.Sent.{Sent}
+use Rattle.claims_assembling.specs.Laws.{Fits}
+use Rattle.claims_assembling.specs.Traces.{framed, held, clocksOf}
+use Rattle.claims_assembling.proofs.Records.{bytes-give-back}
 use Rattle.claims_senders.specs.Fair.{SentFrame, levels, levelsOf, line}
 use Rattle.claims_senders.specs.Rates.{lastsAt, bitsAt}
 use Rattle.claims_through.proofs.Replays.{actLevels, Good, hold-good, Quiet, cut-rests}

@@ -8,21 +8,21 @@ use native.Mathlib.Nat.{le-div-iff-mul-le, div-mul-le-self, add-mul, add-mul-div
 use borrow.Author.Tests.{ne-eqb}
 use lib.Dec.{eqb}
 use lib.ListN.{length}
-use Rattle.sci.specs.Levels.{value, lowBits}
-use Rattle.sci.specs.Control.{SCBR, PE, PT}
-use Rattle.sci.specs.Bits.{parityBit}
+use Rattle.sci.specs.claims.Levels.{value, lowBits}
+use Rattle.sci.specs.model.Control.{SCBR, PE, PT}
+use Rattle.sci.specs.model.Bits.{parityBit}
 use Rattle.sci.proofs.Sending.{value-low}
-use Rattle.qsm.specs.State.{resetModule}
-use Rattle.qsm.specs.Event.{clockLimit}
+use Rattle.qsm.specs.model.State.{resetModule}
+use Rattle.qsm.specs.model.Event.{clockLimit}
 use Rattle.qsm.specs.declared.state.Module.{Module}
 use Rattle.qsm.specs.declared.event.Event.{Event}
-use Rattle.histories.specs.History.{run, log}
-use Rattle.gatherer.specs.Schedule.{scheduled}
-use Rattle.polls.specs.Rule.{on, started}
-use Rattle.polls.specs.Replays.{replayed}
-use Rattle.assembler.specs.Sent.{edge, bitClocks}
-use Rattle.assembler.specs.declared.sent.Sent.{Sent}
-use Rattle.assembled.specs.Traces.{held, clocksOf}
+use Rattle.claims_histories.specs.History.{run, log}
+use Rattle.tool_lines.specs.Schedule.{scheduled}
+use Rattle.claims_polling.specs.Rule.{on, started}
+use Rattle.claims_polling.specs.Replays.{replayed}
+use Rattle.tool_assemble.specs.Sent.{edge, bitClocks}
+use Rattle.tool_assemble.specs.declared.sent.Sent.{Sent}
+use Rattle.claims_assembling.specs.Traces.{held, clocksOf}
 use Rattle.claims_deadlines.proofs.Replaying.{in-time}
 use Rattle.claims_senders.specs.Fair.{SentFrame, dataOf, wordOf, FairFrames, FairFrame, line}
 use Rattle.claims_senders.specs.Heard.{earliest}

@@ -5,12 +5,12 @@ use mathlib.Core.Path.{_≡_}
 use Prim.Native.Nat.{ℕ, suc, _%_}
 use lib.Dec.{ltb}
 use lib.ListN.{length}
-use Rattle.gatherer.specs.Gather.{Report, handed, dropped, most, tooLong}
-use Rattle.provenance.specs.Happened.{Damage, Happening, frameLost, wordCame, statusRead, wordDelivered, wasReset}
-use Rattle.provenance.specs.Segment.{ends, numbered, damaged}
-use Rattle.provenance.specs.Claims.{heard}
-use Rattle.provenance.specs.Witness.{recorded}
-use Rattle.gatherer.specs.Replay.{lines}
+use Rattle.tool_lines.specs.Gather.{Report, handed, dropped, most, tooLong}
+use Rattle.claims_lines.specs.Happened.{Damage, Happening, frameLost, wordCame, statusRead, wordDelivered, wasReset}
+use Rattle.claims_lines.specs.Segment.{ends, numbered, damaged}
+use Rattle.claims_lines.specs.Claims.{heard}
+use Rattle.claims_lines.specs.Witness.{recorded}
+use Rattle.tool_lines.specs.Replay.{lines}
 
 abbrev pub lineReport : ℕ → List ℕ → Report
 lineReport k cs = cond (ltb most (length cs)) (dropped (numbered k) tooLong) (handed (numbered k) cs)

@@ -5,17 +5,17 @@ use mathlib.Core.Path.{_≡_}
 use Prim.Native.Nat.{ℕ, _+_, _*_, _/_, _≤_, _<_}
 use lib.ListN.{length}
 use Rattle.steps.specs.Bits.{bit}
-use Rattle.sci.specs.Control.{PE}
-use Rattle.sci.specs.Overrun.{Mark}
-use Rattle.qsm.specs.State.{resetModule}
-use Rattle.qsm.specs.Event.{clockLimit}
+use Rattle.sci.specs.model.Control.{PE}
+use Rattle.sci.specs.claims.Overrun.{Mark}
+use Rattle.qsm.specs.model.State.{resetModule}
+use Rattle.qsm.specs.model.Event.{clockLimit}
 use Rattle.qsm.specs.declared.state.Module.{Module}
 use Rattle.qsm.specs.declared.event.Event.{Event}
-use Rattle.histories.specs.History.{run, log}
-use Rattle.polls.specs.Rule.{waiting, started}
-use Rattle.polls.specs.Replays.{replayed}
-use Rattle.assembler.specs.declared.sent.Sent.{Sent}
-use Rattle.assembled.specs.Traces.{held, clocksOf}
+use Rattle.claims_histories.specs.History.{run, log}
+use Rattle.claims_polling.specs.Rule.{waiting, started}
+use Rattle.claims_polling.specs.Replays.{replayed}
+use Rattle.tool_assemble.specs.declared.sent.Sent.{Sent}
+use Rattle.claims_assembling.specs.Traces.{held, clocksOf}
 use Rattle.claims_senders.specs.Fair.{SentFrame}
 use Rattle.claims_senders.specs.Rates.{frameAt}
 use Rattle.claims_senders.specs.Undamaged.{Undamaged}

@@ -6,22 +6,22 @@ use Prim.Native.Nat.{ℕ, _*_, _<_, _≤_}
 use native.Mathlib.Omega.{arith}
 use lib.Dec.{lit<}
 use Rattle.steps.specs.Iterate.{iterate}
-use Rattle.sci.specs.Status.{has, raise, raiseIf, fall, fallIf, markSeen, fallSeen}
-use Rattle.sci.specs.Framer.{startBit, dataBit, stopBit, fixed, framed}
-use Rattle.sci.specs.Receiver.{outcome, raised, entered, statusAfter, receiverAfter, received}
-use Rattle.sci.specs.Transmitter.{sent}
-use Rattle.sci.specs.Levels.{value}
-use Rattle.sci.specs.Serial.{sampled, clocked, wroteSccr0, wroteSccr1, sccr0Guarded, sccr1Guarded}
-use Rattle.qsm.specs.State.{resetModule}
-use Rattle.qsm.specs.Map.{decode}
-use Rattle.qsm.specs.Lanes.{inMap, isRestricted}
-use Rattle.qsm.specs.Serial.{peekSerial, serialRead, putSerial, serialUnmodelled, serialGuarded}
-use Rattle.qsm.specs.Word.{peek, put, unmodelled, guarded}
-use Rattle.qsm.specs.Access.{fetch, fetched, store, stored}
-use Rattle.qsm.specs.Decision.{admitted, decideRead, storedBy, decideStored, decideWrite}
-use Rattle.qsm.specs.Event.{clockModule, clocks, afterRead, readValue, refused, holds, reads, writes, does}
-use Rattle.histories.specs.History.{run}
-use Rattle.polls.specs.Rule.{waiting, on, started}
+use Rattle.sci.specs.model.Status.{has, raise, raiseIf, fall, fallIf, markSeen, fallSeen}
+use Rattle.sci.specs.model.Framer.{startBit, dataBit, stopBit, fixed, framed}
+use Rattle.sci.specs.model.Receiver.{outcome, raised, entered, statusAfter, receiverAfter, received}
+use Rattle.sci.specs.model.Transmitter.{sent}
+use Rattle.sci.specs.claims.Levels.{value}
+use Rattle.sci.specs.model.Serial.{sampled, clocked, wroteSccr0, wroteSccr1, sccr0Guarded, sccr1Guarded}
+use Rattle.qsm.specs.model.State.{resetModule}
+use Rattle.qsm.specs.model.Map.{decode}
+use Rattle.qsm.specs.model.Lanes.{inMap, isRestricted}
+use Rattle.qsm.specs.model.Serial.{peekSerial, serialRead, putSerial, serialUnmodelled, serialGuarded}
+use Rattle.qsm.specs.model.Word.{peek, put, unmodelled, guarded}
+use Rattle.qsm.specs.model.Access.{fetch, fetched, store, stored}
+use Rattle.qsm.specs.model.Decision.{admitted, decideRead, storedBy, decideStored, decideWrite}
+use Rattle.qsm.specs.model.Event.{clockModule, clocks, afterRead, readValue, refused, holds, reads, writes, does}
+use Rattle.claims_histories.specs.History.{run}
+use Rattle.claims_polling.specs.Rule.{waiting, on, started}
 use Rattle.claims_senders.specs.Fair.{levels, line, dataOf, FairFrames, FairFrame}
 use Rattle.claims_senders.specs.Heard.{earliest}
 use Rattle.claims_senders.specs.Rates.{LastWithin, Paced}

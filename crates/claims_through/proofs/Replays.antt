@@ -8,14 +8,14 @@ use native.Mathlib.Nat.{mod-lt}
 use lib.Dec.{eqb, ltb}
 use lib.ListN.{length, drop, replicate}
 use borrow.Author.Tests.{eqb-true, ltb-true, ltb-false}
-use Rattle.sci.specs.Control.{RE}
-use Rattle.sci.specs.History.{Step, reads}
-use Rattle.sci.specs.History as sci
+use Rattle.sci.specs.model.Control.{RE}
+use Rattle.sci.specs.claims.History.{Step, reads}
+use Rattle.sci.specs.claims.History as sci
 use Rattle.sci.specs.declared.serial.Sci.{Sci}
-use Rattle.qsm.specs.State.{resetModule}
-use Rattle.qsm.specs.Lanes.{touches}
-use Rattle.qsm.specs.Event.{clockLimit}
-use Rattle.qsm.specs.StatusFlags.{SCI, status}
+use Rattle.qsm.specs.model.State.{resetModule}
+use Rattle.qsm.specs.model.Lanes.{touches}
+use Rattle.qsm.specs.model.Event.{clockLimit}
+use Rattle.qsm.specs.claims.StatusFlags.{SCI, status}
 use Rattle.qsm.specs.declared.state.Module.{Module}
 use Rattle.qsm.specs.declared.event.Access.the-variants.{Read}
 use Rattle.qsm.specs.declared.event.Event.{Event}
@@ -24,17 +24,17 @@ use Rattle.qsm.specs.declared.event.Event.the-variants as event
 use Rattle.trace.specs.Trace.{parsed}
 use Rattle.trace.specs.declared.Parsed.{Parsed}
 use Rattle.trace.specs.declared.Parsed.the-variants.{Record, Unknown, Cut}
-use Rattle.gatherer.specs.Poll.{calls, polled, pollEvents}
-use Rattle.gatherer.specs.Poll as poll
-use Rattle.gatherer.specs.Schedule.{Act, plays, polls, cut, acts, reaches, stops, stopped, followed, Scheduled, next, scheduledFor, scheduled}
-use Rattle.gatherer.specs.Replay.{eventsOf}
-use Rattle.gatherer.proofs.Schedules.{cut-quiet, cut-poll}
-use Rattle.histories.specs.History.{after, run, playedClocks, receiverRead}
-use Rattle.histories.proofs.Follows.{steps, follows}
-use Rattle.histories.proofs.Room.{access-count, hold-count, reset-count, all-played, after-count}
-use Rattle.polls.specs.Rule.{clocksIn}
-use Rattle.polls.specs.Replays.{replayed}
-use Rattle.polls.proofs.Replaying.{poll-run}
+use Rattle.tool_lines.specs.Poll.{calls, polled, pollEvents}
+use Rattle.tool_lines.specs.Poll as poll
+use Rattle.tool_lines.specs.Schedule.{Act, plays, polls, cut, acts, reaches, stops, stopped, followed, Scheduled, next, scheduledFor, scheduled}
+use Rattle.tool_lines.specs.Replay.{eventsOf}
+use Rattle.tool_lines.proofs.Schedules.{cut-quiet, cut-poll}
+use Rattle.claims_histories.specs.History.{after, run, playedClocks, receiverRead}
+use Rattle.claims_histories.proofs.Follows.{steps, follows}
+use Rattle.claims_histories.proofs.Room.{access-count, hold-count, reset-count, all-played, after-count}
+use Rattle.claims_polling.specs.Rule.{clocksIn}
+use Rattle.claims_polling.specs.Replays.{replayed}
+use Rattle.claims_polling.proofs.Replaying.{poll-run}
 use Rattle.claims_deadlines.proofs.Replaying.{in-time}
 use Rattle.claims_senders.specs.Heard.{earliest}
 use Rattle.claims_senders.specs.Serial as serial

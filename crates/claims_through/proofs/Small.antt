@@ -7,15 +7,15 @@ use native.Mathlib.Omega.{arith}
 use borrow.Author.Tests.{ne-eqb, leb-false}
 use lib.Dec.{eqb, leb}
 use Rattle.steps.specs.Bits.{merge}
-use Rattle.sci.specs.Control.{SCBR, RE, sccr0Bits}
-use Rattle.sci.specs.Serial.{resetSci, active, due, prescaled, clocked, dataWritten, sccr0Set, wroteSccr0, sccr1Word, stopped, withSccr1, wroteSccr1, sccr0Guarded, sccr1Guarded}
-use Rattle.sci.specs.History.{Step, reset, clock, reads, writesSccr0, writesSccr1, writesScdr, step, run}
+use Rattle.sci.specs.model.Control.{SCBR, RE, sccr0Bits}
+use Rattle.sci.specs.model.Serial.{resetSci, active, due, prescaled, clocked, dataWritten, sccr0Set, wroteSccr0, sccr1Word, stopped, withSccr1, wroteSccr1, sccr0Guarded, sccr1Guarded}
+use Rattle.sci.specs.claims.History.{Step, reset, clock, reads, writesSccr0, writesSccr1, writesScdr, step, run}
 use Rattle.sci.specs.declared.serial.Sci.{Sci}
 use Rattle.sci.proofs.Sampling.{sample-leaves}
-use Rattle.qsm.specs.State.{resetModule}
+use Rattle.qsm.specs.model.State.{resetModule}
 use Rattle.qsm.specs.declared.event.Event.{Event}
-use Rattle.histories.specs.History as events
-use Rattle.histories.proofs.Lifted.{all, from-reset}
+use Rattle.claims_histories.specs.History as events
+use Rattle.claims_histories.proofs.Lifted.{all, from-reset}
 
 abbrev pub Small : Sci → Type 0
 Small s = 0 < 2 * SCBR (s .sccr0) → s .prescaler < 2 * SCBR (s .sccr0)

@@ -7,16 +7,16 @@ use Prim.Native.Nat.{ℕ, suc, _+_, _*_, _≤_, _<_, min}
 use native.Mathlib.Omega.{arith}
 use lib.Dec.{leb}
 use borrow.Author.Tests.{leb-false}
-use Rattle.sci.specs.Control.{SCBR, RE}
-use Rattle.sci.specs.Framer.{ends, frameOf, framed}
-use Rattle.sci.specs.Line.{Op, sample}
-use Rattle.sci.specs.Serial.{active, due, clocked}
-use Rattle.sci.specs.History.{Step, reset, clock, reads, writesSccr0, writesSccr1, writesScdr, step, sampling, ops}
+use Rattle.sci.specs.model.Control.{SCBR, RE}
+use Rattle.sci.specs.model.Framer.{ends, frameOf, framed}
+use Rattle.sci.specs.claims.Line.{Op, sample}
+use Rattle.sci.specs.model.Serial.{active, due, clocked}
+use Rattle.sci.specs.claims.History.{Step, reset, clock, reads, writesSccr0, writesSccr1, writesScdr, step, sampling, ops}
 use Rattle.sci.specs.declared.framer.Framer.{Framer}
 use Rattle.sci.specs.declared.serial.Sci.{Sci}
 use Rattle.sci.proofs.Sampling.{re-active}
 use Rattle.sci.proofs.Reachable.{turned}
-use Rattle.polls.specs.Spacing.{samplesOf}
+use Rattle.claims_polling.specs.Spacing.{samplesOf}
 use Rattle.claims_deadlines.specs.Deadline.{FarEnough, SpacedFrom}
 use Rattle.claims_deadlines.specs.Deadline as spec
 use Rattle.claims_senders.specs.Heard.{Ended, endedIn, samples, Apart}

@@ -6,27 +6,27 @@ use mathlib.Core.List.{List, [], _∷_, _++_, append-assoc}
 use Prim.Native.Nat.{ℕ, zero, suc, _*_, _≤_, _<_}
 use native.Mathlib.Omega.{arith}
 use lib.ListN.{replicate}
-use Rattle.sci.specs.Control.{SCBR, RE}
-use Rattle.sci.specs.Transmitter.{sent}
-use Rattle.sci.specs.Serial.{resetSci, active, due, clocked}
-use Rattle.sci.specs.History.{Step, reset, clock, reads, writesSccr0, writesSccr1, writesScdr}
-use Rattle.sci.specs.History as sci
+use Rattle.sci.specs.model.Control.{SCBR, RE}
+use Rattle.sci.specs.model.Transmitter.{sent}
+use Rattle.sci.specs.model.Serial.{resetSci, active, due, clocked}
+use Rattle.sci.specs.claims.History.{Step, reset, clock, reads, writesSccr0, writesSccr1, writesScdr}
+use Rattle.sci.specs.claims.History as sci
 use Rattle.sci.specs.declared.serial.Sci.{Sci}
 use Rattle.sci.proofs.History.{clocks}
 use Rattle.sci.proofs.Follow.{step-sccr1}
 use Rattle.sci.proofs.Samples.{stays-awake}
 use Rattle.sci.proofs.Reachable.{turned, clock-turned}
-use Rattle.qsm.specs.Event.{held, clockModule}
+use Rattle.qsm.specs.model.Event.{held, clockModule}
 use Rattle.qsm.specs.declared.state.Module.{Module}
 use Rattle.qsm.specs.declared.event.Event.{Event}
 use Rattle.qsm.specs.declared.event.Event.the-variants.{Reset, Hold}
 use Rattle.qsm.specs.declared.event.Event.the-variants as event
-use Rattle.histories.specs.History.{after, playedClocks}
-use Rattle.histories.proofs.Words.{isSccr1}
-use Rattle.histories.proofs.Follows.{steps, follows}
-use Rattle.histories.proofs.Lifted.{all}
-use Rattle.histories.proofs.Parts.{Along, event-along, on-part, asleep-part}
-use Rattle.histories.proofs.Given.{AllAccesses, event-accesses}
+use Rattle.claims_histories.specs.History.{after, playedClocks}
+use Rattle.claims_histories.proofs.Words.{isSccr1}
+use Rattle.claims_histories.proofs.Follows.{steps, follows}
+use Rattle.claims_histories.proofs.Lifted.{all}
+use Rattle.claims_histories.proofs.Parts.{Along, event-along, on-part, asleep-part}
+use Rattle.claims_histories.proofs.Given.{AllAccesses, event-accesses}
 use Rattle.claims_deadlines.specs.Deadline.{ageAfter, ageFor, InTimeFor, InTime}
 use Rattle.claims_deadlines.proofs.Aging.{aged, agedAll, InSteps}
 use Rattle.claims_deadlines.proofs.Events.{reset-run}

@@ -6,22 +6,22 @@ use mathlib.Core.Option.{none}
 use Prim.Native.Nat.{ℕ, _+_, _*_, _^_, _≤_, _<_}
 use native.Mathlib.Omega.{arith}
 use native.Mathlib.Nat.{mul-le-mul-right}
-use Rattle.sci.specs.Control.{SCBR, M}
-use Rattle.sci.specs.Framer.{searching}
-use Rattle.sci.specs.Overrun.{Mark}
-use Rattle.sci.specs.Overrun as marks
-use Rattle.sci.specs.History.{Step}
-use Rattle.sci.specs.History as sci
+use Rattle.sci.specs.model.Control.{SCBR, M}
+use Rattle.sci.specs.model.Framer.{searching}
+use Rattle.sci.specs.claims.Overrun.{Mark}
+use Rattle.sci.specs.claims.Overrun as marks
+use Rattle.sci.specs.claims.History.{Step}
+use Rattle.sci.specs.claims.History as sci
 use Rattle.sci.specs.declared.framer.Framer.{Framer}
 use Rattle.sci.specs.declared.serial.Sci.{Sci}
-use Rattle.qsm.specs.State.{resetModule}
+use Rattle.qsm.specs.model.State.{resetModule}
 use Rattle.qsm.specs.declared.state.Module.{Module}
 use Rattle.qsm.specs.declared.event.Event.{Event}
-use Rattle.histories.specs.History.{after, run}
-use Rattle.histories.proofs.Follows.{steps, follows}
-use Rattle.histories.proofs.Lifted.{all, all-ops, all-log}
-use Rattle.histories.proofs.Uncounted.{rate-is-all}
-use Rattle.polls.specs.Spacing.{samplesOf}
+use Rattle.claims_histories.specs.History.{after, run}
+use Rattle.claims_histories.proofs.Follows.{steps, follows}
+use Rattle.claims_histories.proofs.Lifted.{all, all-ops, all-log}
+use Rattle.claims_histories.proofs.Uncounted.{rate-is-all}
+use Rattle.claims_polling.specs.Spacing.{samplesOf}
 use Rattle.claims_deadlines.specs.Deadline.{SpacedFrom}
 use Rattle.claims_senders.specs.Fair.{SentFrame, line}
 use Rattle.claims_senders.specs.Heard.{earliest}

@@ -5,8 +5,8 @@ use mathlib.Core.Path.{_≡_}
 use Prim.Native.Nat.{ℕ, zero, suc, _+_, _*_, _<_, _≤_}
 use lib.Dec.{eqb}
 use lib.ListN.{length, drop, replicate}
-use Rattle.qsm.specs.State.{resetModule}
-use Rattle.qsm.specs.Event.{clockLimit}
+use Rattle.qsm.specs.model.State.{resetModule}
+use Rattle.qsm.specs.model.Event.{clockLimit}
 use Rattle.qsm.specs.declared.state.Module.{Module}
 use Rattle.qsm.specs.declared.event.Event.{Event}
 use Rattle.qsm.specs.declared.event.Event.the-variants.{Reset, Hold}
@@ -14,10 +14,10 @@ use Rattle.qsm.specs.declared.event.Event.the-variants as event
 use Rattle.trace.specs.Trace.{parsed}
 use Rattle.trace.specs.declared.Parsed.{Parsed}
 use Rattle.trace.specs.declared.Parsed.the-variants.{Record, Unknown, Cut}
-use Rattle.gatherer.specs.Schedule.{clockAfter, stops}
-use Rattle.histories.specs.History.{run, log}
-use Rattle.polls.specs.Rule.{waiting, clocksIn, started}
-use Rattle.polls.specs.Replays.{replayed}
+use Rattle.tool_lines.specs.Schedule.{clockAfter, stops}
+use Rattle.claims_histories.specs.History.{run, log}
+use Rattle.claims_polling.specs.Rule.{waiting, clocksIn, started}
+use Rattle.claims_polling.specs.Replays.{replayed}
 use Rattle.claims_senders.specs.Fair.{Bit, SentFrame, line, FairFrames}
 use Rattle.claims_senders.specs.Heard.{earliest}
 use Rattle.claims_senders.specs.Undamaged.{Undamaged}

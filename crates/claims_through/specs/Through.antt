@@ -4,16 +4,16 @@ use mathlib.Core.Bool.{Bool, true, false}
 use mathlib.Core.Path.{_≡_}
 use Prim.Native.Nat.{ℕ, _*_, _<_}
 use lib.ListN.{replicate}
-use Rattle.sci.specs.Control.{SCBR, RE, M, bitsOf}
-use Rattle.sci.specs.Framer.{searching}
-use Rattle.sci.specs.Overrun.{Mark, frameLost, wordCame, statusRead, wordDelivered, wasReset}
-use Rattle.qsm.specs.State.{resetModule}
+use Rattle.sci.specs.model.Control.{SCBR, RE, M, bitsOf}
+use Rattle.sci.specs.model.Framer.{searching}
+use Rattle.sci.specs.claims.Overrun.{Mark, frameLost, wordCame, statusRead, wordDelivered, wasReset}
+use Rattle.qsm.specs.model.State.{resetModule}
 use Rattle.qsm.specs.declared.state.Module.{Module}
 use Rattle.qsm.specs.declared.event.Event.{Event}
 use Rattle.qsm.specs.declared.event.Event.the-variants.{Reset, Hold}
 use Rattle.qsm.specs.declared.event.Event.the-variants as event
-use Rattle.histories.specs.History.{after, run, playedClocks, log}
-use Rattle.polls.specs.Rule.{waiting}
+use Rattle.claims_histories.specs.History.{after, run, playedClocks, log}
+use Rattle.claims_polling.specs.Rule.{waiting}
 use Rattle.claims_deadlines.specs.Deadline.{InTime, SpacedBy}
 use Rattle.claims_senders.specs.Fair.{SentFrame, line, FairFrames}
 use Rattle.claims_senders.specs.Heard.{earliest}

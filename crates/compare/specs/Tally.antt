@@ -3,8 +3,8 @@ use mathlib.Core.Bool.{_||_}
 use Prim.Native.Nat.{ℕ, _-_, _/_, min}
 use lib.Dec.{eqb}
 use Rattle.files.specs.Pieces.{counted}
-use Rattle.comparison.specs.Kind.{strideOf}
-use Rattle.comparison.specs.declared.Compared.{Compared}
+use Rattle.tool_compare.specs.Kind.{strideOf}
+use Rattle.tool_compare.specs.declared.Compared.{Compared}
 use Rattle.compare.specs.declared.tally.Tally.{Tally}
 
 -- A piece more, of so many bytes of the first log and of the second: the differing answers join the count, and a log that ends within an

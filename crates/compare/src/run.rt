@@ -9,13 +9,13 @@ use crate::tally::answers_in;
 use crate::tally::answers_of;
 use crate::tally::nothing;
 use crate::tally::tallied;
-use comparison::kinds::first_other;
-use comparison::kinds::kind_of;
-use comparison::kinds::mixed;
 use files::pieces::Filled;
 use files::pieces::counted;
 use files::pieces::fill;
 use files::pieces::least;
+use tool_compare::kinds::first_other;
+use tool_compare::kinds::kind_of;
+use tool_compare::kinds::mixed;
 
 // An answer that does not begin with the logs' kind: which log's, A or B, its number and its place in bytes, what it begins with, and the kind.
 pub struct Other {
@@ -115,7 +115,7 @@ fn finished(t: Tally) -> Turned {
 // The next pieces of both logs. A log that is cut is refused at the ends of both, for 5 comes before 6.
 fn piece<'a>(shows: bool, t: Tally, a: &'a [u8], b: &'a [u8], list: &mut [u64]) -> Turned {
     let kind = kind_with(t.kind, a, b);
-    let r = comparison::compare_numbers_as(kind, a, b, list);
+    let r = tool_compare::compare_numbers_as(kind, a, b, list);
     if r.refusal == 5 {
         return Turned {
             tally: t,

@@ -3,8 +3,7 @@ ghost use mathlib.Core.Path.{_≡_};
 ghost use Prim.Native.Nat.{_*_};
 ghost use lib.ListN.{drop};
 ghost use Rattle.text.specs.Log.{loggedAt};
-ghost use Rattle.comparison.specs.Kind.{strideOf};
-use comparison::kinds::stride_of;
+ghost use Rattle.tool_compare.specs.Kind.{strideOf};
 use files::output::write_first;
 use files::pieces::counted;
 use libc::STDOUT_FILENO;
@@ -13,6 +12,7 @@ use text::difference::difference_line;
 use text::line::Line;
 use text::log::Logged;
 use text::log::logged_at;
+use tool_compare::kinds::stride_of;
 
 // Whether it could be written.
 pub fn write_line(line: Line) -> bool {

@@ -1,8 +1,8 @@
 // Two logs counted piece by piece: the bytes of each, the answers that differ, and what is said of them at the end.
 ghost use mathlib.Core.Path.{_≡_};
 ghost use Rattle.compare.specs.Tally.{tallied, answersIn, answersOf, moreOf};
-use comparison::Compared;
 use files::pieces::counted;
+use tool_compare::Compared;
 
 // What has been compared so far: the logs' kind, or 0 before the first piece; whether a log ended within an answer; how many answers differ;
 // and the bytes of each log.

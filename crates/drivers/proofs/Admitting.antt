@@ -2,7 +2,7 @@
 use mathlib.Core.Bool.{Bool, false, _&&_}
 use mathlib.Core.Path.{_≡_, refl}
 use Prim.Native.Nat.{ℕ}
-use Rattle.qsm.specs.Decision.{shaped, fits, permits, tested, admitted, decideStored}
+use Rattle.qsm.specs.model.Decision.{shaped, fits, permits, tested, admitted, decideStored}
 use Rattle.qsm.specs.declared.state.Module.{Module}
 use Rattle.qsm.specs.declared.access.Store.{Store}
 use Rattle.qsm.specs.declared.decision.Decision.{Decision}

@@ -3,9 +3,9 @@ use mathlib.Core.Path.{_≡_, refl}
 use mathlib.Core.Bool.{Bool, true, false, cond}
 use Prim.Native.Nat.{ℕ}
 use lib.Dec.{eqb}
-use Rattle.qsm.specs.State.{resetModule}
-use Rattle.qsm.specs.Decision.{permits, refusalOf, decideRead, decideStored, storedBy}
-use Rattle.qsm.specs.Event.{answerOf, passes, refused, resets, holds, reads, writes, does, step}
+use Rattle.qsm.specs.model.State.{resetModule}
+use Rattle.qsm.specs.model.Decision.{permits, refusalOf, decideRead, decideStored, storedBy}
+use Rattle.qsm.specs.model.Event.{answerOf, passes, refused, resets, holds, reads, writes, does, step}
 use Rattle.qsm.specs.declared.state.Module.{Module}
 use Rattle.qsm.specs.declared.decision.Decision.{Decision}
 use Rattle.qsm.specs.declared.decision.Decision.the-variants.{Permitted, Blocked, Misshapen, Unmapped, Unmodelled, Guarded}

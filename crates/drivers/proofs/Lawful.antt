@@ -4,15 +4,15 @@ use mathlib.Core.Bool.{Bool, true, false, cond, not, _||_}
 use Prim.Native.Nat.{ℕ}
 use lib.Dec.{eqb}
 use borrow.Author.Tests.{eqb-true}
-use Rattle.qsm.specs.State.{resetModule}
-use Rattle.qsm.specs.Event as model
+use Rattle.qsm.specs.model.State.{resetModule}
+use Rattle.qsm.specs.model.Event as model
 use Rattle.qsm.specs.declared.state.Module.{Module}
 use Rattle.qsm.specs.declared.event.Access as access
 use Rattle.qsm.specs.declared.event.Event as below
 use Rattle.qsm.specs.declared.event.Event.the-variants as event
 use Rattle.drivers.specs.State.{other, numberOf, holds, proper, begun}
 use Rattle.drivers.specs.Event.{told, played, withSplit, withHolder, fixed, restarted, does, step}
-use Rattle.drivers.specs.Laws.{nine, OwnStep, Kept, Demand2, Resets, Claims, Laws}
+use Rattle.drivers.specs.Claims.{nine, OwnStep, Kept, Demand2, Resets, Claiming, Claims}
 use Rattle.drivers.specs.declared.state.Driver.{Driver}
 use Rattle.drivers.specs.declared.state.Driver.the-variants.{Axis, Spindle}
 use Rattle.drivers.specs.declared.state.Shared.{Shared}
@@ -68,7 +68,7 @@ of-driver : (d : Shared) (who : Driver) (a : access.Access) → nine d (Drive wh
 unfolding does
 of-driver d who a h = plays d (Drive who a) (event.Access a) (done d (Drive who a) h)
 
--- Claims and releases change the holder alone.
+-- Claiming and releases change the holder alone.
 claimed : (d : Shared) (who : Driver) → nine d (Claim who) ≡ false → step d (Claim who) .state ≡ withHolder d (numberOf who)
 unfolding does told
 claimed d who h = ap stateOf (done d (Claim who) h)
@@ -130,7 +130,7 @@ twice d who h k =
     let let-through : nine d (Claim who) ≡ false = rw (k, is) (other-number who) in
     claimed d who let-through ∙ ap (λ (n : ℕ). withHolder d n) (sym is)
 
-pub laws : Laws
+pub laws : Claims
 laws =
     record {
       fitting = λ s who w. refl;
@@ -138,7 +138,7 @@ laws =
       unchanged = unchanged;
       demand2 = demand2;
       resets = record { first = first; later = later };
-      claims =
+      claiming =
           record {
             held = λ d who h. ap (heldBy who) (claimed d who h) ∙ same-number who;
             alone = λ d who h. ap (heldBy (other who)) (claimed d who h) ∙ other-number who;

@@ -6,14 +6,14 @@ use native.Mathlib.Omega.{arith}
 use lib.Dec.{eqb, ltb}
 use borrow.Author.Tests.{ltb-true, ltb-false, ne-eqb}
 use Rattle.qspi.specs.declared.registers.Registers.{Registers}
-use Rattle.qsm.specs.Map.{from, decode}
+use Rattle.qsm.specs.model.Map.{from, decode}
 use Rattle.qsm.specs.declared.map.QueueWord.the-variants.{Spcr0, Spcr1, Spcr2, Spcr3Spsr, Receive, Transmit, Command}
 use Rattle.qsm.specs.declared.map.Place.{Place}
 use Rattle.qsm.specs.declared.map.Place.the-variants.{Own, Serial, Queue, Hole}
 use Rattle.qsm.proofs.Ranges.{before, past, bounds, block-is, decodeWord, by-words, at-word, past-registers}
 use Rattle.drivers.specs.State.{owns}
 use Rattle.drivers.specs.Reach.{reachesQueue, reachesWord, writesSpcr1, writesSpcr2, writesWord}
-use Rattle.drivers.specs.Laws.{reached}
+use Rattle.drivers.specs.Claims.{reached}
 use Rattle.drivers.specs.declared.state.Driver.{Driver}
 
 pub and-true : (a : Bool) → a && true ≡ a

@@ -6,11 +6,11 @@ use native.Mathlib.Omega.{arith}
 use lib.Dec.{eqb}
 use borrow.Author.Tests.{eqb-true, eqb-false}
 use Rattle.steps.specs.Bits.{bit, merge}
-use Rattle.qspi.specs.Outputs.{enabled}
-use Rattle.qsm.specs.Map.{decode}
-use Rattle.qsm.specs.Lanes.{upperLane, lowerLane, lined, inMap}
-use Rattle.qsm.specs.Decision.{shaped, fits, barred, permits, gate, admitted, decideRead}
-use Rattle.qsm.specs.Event.{answerOf}
+use Rattle.qspi.specs.model.Outputs.{enabled}
+use Rattle.qsm.specs.model.Map.{decode}
+use Rattle.qsm.specs.model.Lanes.{upperLane, lowerLane, lined, inMap}
+use Rattle.qsm.specs.model.Decision.{shaped, fits, barred, permits, gate, admitted, decideRead}
+use Rattle.qsm.specs.model.Event.{answerOf}
 use Rattle.qsm.specs.declared.state.Module.{Module}
 use Rattle.qsm.specs.declared.event.Access as access
 use Rattle.qsm.specs.declared.event.Access.the-variants.{Read, Write}
@@ -18,7 +18,7 @@ use Rattle.qsm.specs.declared.event.Event.the-variants as event
 use Rattle.drivers.specs.State.{holds as holding, begun}
 use Rattle.drivers.specs.Reach.{reachesWord, reaches, fit, writesSpcr1, writesSpcr2, writesWord, writes, allows, admits}
 use Rattle.drivers.specs.Event.{told, played, refuses, restarted, does, step}
-use Rattle.drivers.specs.Laws.{reached, every, SPCR1, SPCR2, changesDelays, setsUnfit, leavesUnfit, halfWhileOn, disorderly, outside, nine, Exactly, Unchanged}
+use Rattle.drivers.specs.Claims.{reached, every, SPCR1, SPCR2, changesDelays, setsUnfit, leavesUnfit, halfWhileOn, disorderly, outside, nine, Exactly, Unchanged}
 use Rattle.drivers.specs.declared.state.Driver.{Driver}
 use Rattle.drivers.specs.declared.state.Shared.{Shared}
 use Rattle.drivers.specs.declared.event.Event.{Event}

@@ -1,18 +1,18 @@
 -- The witness computes. Assumes nothing.
 use mathlib.Core.Path.{refl}
 use Rattle.steps.specs.Iterate.{iterate}
-use Rattle.qspi.specs.Registers.{reset, writeSpcr1}
-use Rattle.qsm.specs.State.{resetModule}
-use Rattle.qsm.specs.Map.{decode}
-use Rattle.qsm.specs.Lanes.{inMap, isRestricted}
-use Rattle.qsm.specs.Queue.{putQueue, queueUnmodelled, queueGuarded, queueRead}
-use Rattle.qsm.specs.Serial.{serialRead}
-use Rattle.qsm.specs.Word.{put, unmodelled, guarded}
-use Rattle.qsm.specs.Access.{store, stored}
-use Rattle.qsm.specs.Decision.{admitted, decideRead, storedBy, decideStored}
-use Rattle.qsm.specs.Event.{answerOf, afterRead, refused, resets}
-use Rattle.qsm.specs.Event as model
-use Rattle.qsm.specs.Event.{reads, writes, does, step}
+use Rattle.qspi.specs.model.Registers.{reset, writeSpcr1}
+use Rattle.qsm.specs.model.State.{resetModule}
+use Rattle.qsm.specs.model.Map.{decode}
+use Rattle.qsm.specs.model.Lanes.{inMap, isRestricted}
+use Rattle.qsm.specs.model.Queue.{putQueue, queueUnmodelled, queueGuarded, queueRead}
+use Rattle.qsm.specs.model.Serial.{serialRead}
+use Rattle.qsm.specs.model.Word.{put, unmodelled, guarded}
+use Rattle.qsm.specs.model.Access.{store, stored}
+use Rattle.qsm.specs.model.Decision.{admitted, decideRead, storedBy, decideStored}
+use Rattle.qsm.specs.model.Event.{answerOf, afterRead, refused, resets}
+use Rattle.qsm.specs.model.Event as model
+use Rattle.qsm.specs.model.Event.{reads, writes, does, step}
 use Rattle.drivers.specs.State.{newShared}
 use Rattle.drivers.specs.Reach as reach
 use Rattle.drivers.specs.Reach.{reaches, allows, admits}

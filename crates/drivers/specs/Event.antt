@@ -1,9 +1,9 @@
 -- Document 02, L11: events of the host and of the two drivers, and the step from one to the next.
 use mathlib.Core.Bool.{Bool, false, cond, not, _&&_, _||_}
 use Prim.Native.Nat.{ℕ}
-use Rattle.qspi.specs.Outputs.{enabled}
-use Rattle.qsm.specs.Event.{answerOf}
-use Rattle.qsm.specs.Event as model
+use Rattle.qspi.specs.model.Outputs.{enabled}
+use Rattle.qsm.specs.model.Event.{answerOf}
+use Rattle.qsm.specs.model.Event as model
 use Rattle.qsm.specs.declared.event.Event as below
 use Rattle.qsm.specs.declared.event.Event.the-variants as event
 use Rattle.drivers.specs.State.{other, numberOf, holds, proper, begun}

@@ -2,5 +2,5 @@ pub mod State
 pub mod Reach
 pub mod Event
 pub mod Host
-pub mod Laws
+pub mod Claims
 pub mod Witness

@@ -4,11 +4,11 @@ use mathlib.Core.Bool.{Bool, true, false, not, _&&_, _||_}
 use Prim.Native.Nat.{ℕ, _+_, _*_, _/_, _%_}
 use lib.Dec.{eqb, leb}
 use Rattle.steps.specs.Bits.{merge}
-use Rattle.qspi.specs.Fields.{spe, wren, wrto, endqp, newqp}
+use Rattle.qspi.specs.model.Fields.{spe, wren, wrto, endqp, newqp}
 use Rattle.qspi.specs.declared.registers.Registers.{Registers}
-use Rattle.qsm.specs.Map.{decode}
-use Rattle.qsm.specs.Lanes.{upperLane, lowerLane, lined}
-use Rattle.qsm.specs.Decision.{shaped, fits, permits, admitted, decideRead}
+use Rattle.qsm.specs.model.Map.{decode}
+use Rattle.qsm.specs.model.Lanes.{upperLane, lowerLane, lined}
+use Rattle.qsm.specs.model.Decision.{shaped, fits, permits, admitted, decideRead}
 use Rattle.qsm.specs.declared.map.QueueWord.{QueueWord}
 use Rattle.qsm.specs.declared.map.QueueWord.the-variants.{Spcr0, Spcr1, Spcr2, Spcr3Spsr, Receive, Transmit, Command}
 use Rattle.qsm.specs.declared.map.Place.{Place}

@@ -2,8 +2,8 @@
 use mathlib.Core.Bool.{Bool, true, false}
 use Prim.Native.Nat.{ℕ}
 use lib.Dec.{eqb, ltb}
-use Rattle.qsm.specs.State.{resetModule}
-use Rattle.qsm.specs.Map.{from}
+use Rattle.qsm.specs.model.State.{resetModule}
+use Rattle.qsm.specs.model.Map.{from}
 use Rattle.drivers.specs.declared.state.Driver.{Driver}
 use Rattle.drivers.specs.declared.state.Driver.the-variants.{Axis, Spindle}
 use Rattle.drivers.specs.declared.state.Shared.{Shared}

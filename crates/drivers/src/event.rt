@@ -1,7 +1,7 @@
 // Events of the host and of the two drivers, refusal 9, and the step (02, L11).
 ghost use mathlib.Core.Path.{_≡_};
-ghost use Rattle.qspi.specs.Outputs.{enabled};
-ghost use Rattle.qsm.specs.Event.{answerOf};
+ghost use Rattle.qspi.specs.model.Outputs.{enabled};
+ghost use Rattle.qsm.specs.model.Event.{answerOf};
 ghost use Rattle.drivers.specs.Event.{told, played, withSplit, withHolder, fixed, restarted, refuses, does, step};
 use crate::reach::admits;
 use crate::state::Driver;

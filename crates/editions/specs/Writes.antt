@@ -2,7 +2,7 @@
 use mathlib.Core.List.{List, [], _∷_, _++_}
 use Prim.Native.Nat.{ℕ}
 use Rattle.steps.specs.Bits.{upperByte, lowerByte}
-use Rattle.settings.specs.declared.records.Edition.{Edition}
+use Rattle.tool_editions.specs.declared.records.Edition.{Edition}
 
 -- Document 01, Trace: 04 write, width 2 with bit 7 for supervisor, offset (2), value (4).
 abbrev pub writeOf : ℕ → ℕ → List ℕ

@@ -2,9 +2,9 @@
 ghost use mathlib.Core.Path.{_≡_};
 ghost use Rattle.editions.specs.Words.{hexValue, ofDigits, registerOf};
 use files::command::word;
-use settings::records::Edition;
 use text::number::Number;
 use text::number::parse_number;
+use tool_editions::records::Edition;
 
 pub enum Verb {
     Add(Edition),

@@ -2,9 +2,9 @@
 use command::Verb;
 use files::message::say;
 use libc::STDOUT_FILENO;
-use settings::Changed;
-use settings::Given;
 use show::write_line;
+use tool_editions::Changed;
+use tool_editions::Given;
 
 mod command;
 mod file;
@@ -51,7 +51,7 @@ fn given(g: Given, traces: bool) {
 }
 
 fn list(buf: &[u8]) {
-    let g = settings::newest(buf, buf.len());
+    let g = tool_editions::newest(buf, buf.len());
     if (g.refusal == 0) | (g.refusal == 8) {
         show::list(buf);
         return;
@@ -62,15 +62,15 @@ fn list(buf: &[u8]) {
 fn run(verb: Verb, traces: bool, path: &[u8], buf: &mut [u8], used: usize) {
     match verb {
         Verb::Add(e) => {
-            let c = settings::add(buf, used, e);
+            let c = tool_editions::add(buf, used, e);
             changed(path, buf, c, true, e.number);
         }
         Verb::Withdraw(n) => {
-            let c = settings::withdraw(buf, used, n);
+            let c = tool_editions::withdraw(buf, used, n);
             changed(path, buf, c, false, n);
         }
-        Verb::Get(n) => given(settings::get(buf, used, n), traces),
-        Verb::Newest => given(settings::newest(buf, used), traces),
+        Verb::Get(n) => given(tool_editions::get(buf, used, n), traces),
+        Verb::Newest => given(tool_editions::newest(buf, used), traces),
         Verb::List => {
             let n = file::within(used, buf.len());
             list(&buf[..n]);

@@ -3,10 +3,10 @@ ghost use mathlib.Core.Path.{_≡_};
 ghost use Rattle.editions.specs.Writes.{writesOf};
 use files::output::write_first;
 use libc::STDOUT_FILENO;
-use settings::records::Edition;
-use settings::records::Parsed;
-use settings::records::Record;
 use text::line::Line;
+use tool_editions::records::Edition;
+use tool_editions::records::Parsed;
+use tool_editions::records::Record;
 
 // Whether it could be written.
 pub fn write_line(line: Line) -> bool {
@@ -121,7 +121,7 @@ pub fn writes(e: Edition) -> [u8; 32]
 fn show(buf: &[u8], r: Record) -> bool {
     match r {
         Record::Added(e) => {
-            let g = settings::get(buf, buf.len(), e.number);
+            let g = tool_editions::get(buf, buf.len(), e.number);
             write_line(edition_line(e, g.refusal != 0))
         }
         Record::Withdrawn(_) => true,
@@ -132,14 +132,14 @@ fn show(buf: &[u8], r: Record) -> bool {
 pub fn list(buf: &[u8]) -> bool {
     let mut at: usize = 0;
     while at < buf.len() {
-        let p = settings::records::parse(&buf[at..]);
+        let p = tool_editions::records::parse(&buf[at..]);
         let Parsed::Whole(r) = p else {
             return true;
         };
         if !show(buf, r) {
             return false;
         }
-        at += settings::records::size(r);
+        at += tool_editions::records::size(r);
     }
     true
 }

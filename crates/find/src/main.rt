@@ -6,13 +6,13 @@ use files::message::say_of;
 use files::output::write_first;
 use files::whole::whole;
 use libc::STDOUT_FILENO;
-use marks::stored::BYTES;
-use marks::stored::decode;
-use marks::stored::numbers;
 use run::Next;
 use text::line::Line;
 use text::number::Number;
 use text::number::parse_number;
+use tool_index::stored::BYTES;
+use tool_index::stored::decode;
+use tool_index::stored::numbers;
 
 mod run;
 

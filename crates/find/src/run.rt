@@ -3,8 +3,8 @@ use files::pieces::carry;
 use files::pieces::fill;
 use files::pieces::least;
 use files::whole::seek;
-use marks::walk::Position;
 use qsm::event::Event;
+use tool_index::walk::Position;
 use trace::Parsed;
 
 // The record with its position and kind, none, or what is next.
@@ -67,7 +67,7 @@ fn turn(fd: i32, run: Run, buf: &mut [u8], number: u64) -> Turned {
     }
     let total = f.total;
     let from = run.at;
-    let w = marks::walk::go_on(from, &buf[..total], number);
+    let w = tool_index::walk::go_on(from, &buf[..total], number);
     let at = w.at;
     let read = least(w.read, total);
     let next = after(at, number, &buf[read..total], f.ended);
@@ -84,7 +84,7 @@ fn turn(fd: i32, run: Run, buf: &mut [u8], number: u64) -> Turned {
 
 // The mark before the record, or the last one, if the trace goes on there; else its start. A mark that no trace can have is not gone to.
 fn begin(fd: i32, lent: &[u64], count: usize, number: u64) -> Run {
-    let mark = marks::index::mark_for(lent, count, number);
+    let mark = tool_index::index::mark_for(lent, count, number);
     if mark.possible(u64::MAX) {
         if seek(fd, mark.place) {
             return Run {

@@ -6,7 +6,7 @@ use Prim.Native.Nat.{ℕ}
 use mir.Syntax.{w8, w16, w32}
 use denote.Enum.Laws as EL
 use denote.Struct.Laws as LL
-use Rattle.qsm.specs.Event.{answered, resets, holds, reads, writes, does, step}
+use Rattle.qsm.specs.model.Event.{answered, resets, holds, reads, writes, does, step}
 use Rattle.qsm.specs.declared.state.Module.{Module}
 use Rattle.qsm.specs.declared.event.Event.{Event}
 use Rattle.qsm.specs.declared.event.Event.the-variants.{Reset, Hold}

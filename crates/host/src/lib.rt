@@ -1,7 +1,7 @@
 // A module that a host keeps and changes in place: each entry copies the state, calls the step by value and stores the result. `noise`, `taken` and `lost`
 // only look.
 ghost use mathlib.Core.Path.{_≡_};
-ghost use Rattle.qsm.specs.Event.{answered, resets};
+ghost use Rattle.qsm.specs.model.Event.{answered, resets};
 ghost use Rattle.qsm.specs.declared.event.Event.the-variants.{Reset, Hold};
 ghost use Rattle.host.specs.Host.{Applied, readEvent, writeEvent};
 use qsm::event::Answer;

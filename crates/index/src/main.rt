@@ -6,14 +6,14 @@ use files::message::say_of;
 use files::output::write_first;
 use files::whole::whole;
 use libc::STDOUT_FILENO;
-use marks::stored::BYTES;
-use marks::stored::decode;
-use marks::stored::numbers;
 use run::Next;
 use run::Run;
 use run::Turned;
 use save::save;
 use text::line::Line;
+use tool_index::stored::BYTES;
+use tool_index::stored::decode;
+use tool_index::stored::numbers;
 use trace::Stop;
 
 mod run;

@@ -3,8 +3,8 @@ use files::pieces::carry;
 use files::pieces::fill;
 use files::pieces::least;
 use files::whole::seek;
-use marks::index::Indexed;
-use marks::walk::Position;
+use tool_index::index::Indexed;
+use tool_index::walk::Position;
 
 pub enum Next {
     More,
@@ -64,7 +64,7 @@ fn turn(fd: i32, run: Run, buf: &mut [u8], lent: &mut [u64]) -> Turned {
     }
     let total = f.total;
     let from = run.at;
-    let i = marks::index::go_on(from, &buf[..total], lent, run.marks);
+    let i = tool_index::index::go_on(from, &buf[..total], lent, run.marks);
     let read = between(from.place, i.place, total);
     let have = carry(buf, read, total);
     let at = Position {
@@ -85,7 +85,7 @@ fn turn(fd: i32, run: Run, buf: &mut [u8], lent: &mut [u64]) -> Turned {
 
 // The last mark, if the trace goes on there; else its start, and marks afresh. A mark that no trace can have is not gone to.
 fn begin(fd: i32, lent: &[u64], count: usize) -> Run {
-    let last = marks::index::mark_for(lent, count, u64::MAX);
+    let last = tool_index::index::mark_for(lent, count, u64::MAX);
     if last.possible(u64::MAX) {
         if seek(fd, last.place) {
             return Run {

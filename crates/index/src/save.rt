@@ -3,7 +3,7 @@ use files::message::fail;
 use files::output::begin;
 use files::output::finish;
 use files::pieces::least;
-use marks::stored::mark_bytes;
+use tool_index::stored::mark_bytes;
 
 // Writes so many marks, or all that there are; whether it could.
 fn write(fd: i32, lent: &[u64], count: usize) -> bool {

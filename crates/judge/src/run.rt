@@ -6,9 +6,9 @@ use crate::piece::further;
 use crate::piece::nothing;
 use crate::show::show_wrong;
 use files::pieces::counted;
-use judging::Verdict;
-use judging::Walked;
 use qsm::state::Module;
+use tool_judge::Verdict;
+use tool_judge::Walked;
 
 // Where a run stands: the module, the records answered and the bytes of the trace that they had, the two pieces, and whether a wrong answer
 // was found.
@@ -85,7 +85,7 @@ fn after(run: Run, w: Walked) -> Run {
 // Plays what is there of the trace beside what is there of the log; after a wrong answer the log has no more to say.
 pub fn advance<'a>(run: Run, t: &'a [u8], l: &'a [u8]) -> Turned {
     let m = run.state;
-    let w = judging::walk(m, t, l, run.log.ended | run.wrong);
+    let w = tool_judge::walk(m, t, l, run.log.ended | run.wrong);
     let v = w.verdict;
     let next = after_stop(w.stop, run.trace.ended);
     let past = after(run, w);

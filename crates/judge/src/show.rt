@@ -77,11 +77,11 @@ fn bytes_of(k: usize, all: usize) -> usize {
 // Answer n, which is answer k of these pieces, played from m on: beside the k answers before it, and then with room for one.
 pub fn show_wrong<'a>(m: Module, t: &'a [u8], l: &'a [u8], n: u64, k: usize, f: Field) -> bool {
     let at = least(bytes_of(k, l.len()), l.len());
-    let w = judging::walk(m, t, &l[0..at], false);
+    let w = tool_judge::walk(m, t, &l[0..at], false);
     let from = least(w.read, t.len());
     let before = w.state;
     let room = [0u8; 18];
-    let r = judging::run(before, &t[from..], &room, false);
+    let r = tool_judge::run(before, &t[from..], &room, false);
     let ours = r.ours;
     let written = bytes_of(r.walked.records, 18);
     show(n, f, &t[from..], &ours, written, &l[at..])

@@ -9,13 +9,13 @@ use files::output::write_first;
 use files::pieces::carry;
 use files::pieces::counted;
 use files::pieces::fill;
-use gatherer::Lines;
-use gatherer::line::Outcome;
-use gatherer::noise::Noise;
-use gatherer::piece::go_on_piece;
 use libc::STDERR_FILENO;
 use libc::STDOUT_FILENO;
 use text::line::Line;
+use tool_lines::Lines;
+use tool_lines::line::Outcome;
+use tool_lines::noise::Noise;
+use tool_lines::piece::go_on_piece;
 
 // Where a run stands.
 pub struct Run {
@@ -47,7 +47,7 @@ impl Run {
     // At the start of a trace, with nothing read.
     pub fn start() -> Run {
         Run {
-            state: gatherer::start(),
+            state: tool_lines::start(),
             place: 0,
             total: 0,
             ended: false,
@@ -159,7 +159,7 @@ fn call(
     last: bool,
     period: u32,
     line: &mut [u8],
-) -> gatherer::Turned {
+) -> tool_lines::Turned {
     if buf.len() < total {
         return go_on_piece(s, buf, last, period, line);
     }

@@ -7,9 +7,9 @@ use files::message::say_of;
 use libc::STDERR_FILENO;
 use libc::STDIN_FILENO;
 use libc::STDOUT_FILENO;
-use planner::Planned;
 use read::Reading;
 use text::line::Line;
+use tool_plan::Planned;
 use wanted::Wanted;
 
 mod read;
@@ -149,7 +149,7 @@ fn chosen(b: bool, weight: u16) -> u16
 // The proposal with what the converter asks.
 fn changed(w: Wanted, r: Reading, window: u64) -> Planned {
     let points = r.points;
-    let planned = planner::quickest::plan(points, window);
+    let planned = tool_plan::quickest::plan(points, window);
     if planned.refusal != 0 {
         return planned;
     }
@@ -158,7 +158,7 @@ fn changed(w: Wanted, r: Reading, window: u64) -> Planned {
     let dsckl = (w.dsckl % 128) as u16;
     let spcr0 = plan.spcr0 / 1024 * 1024 + chosen(w.cpol, 512) + chosen(w.cpha, 256) + spbr;
     let spcr1 = plan.spcr1 / 32768 * 32768 + dsckl * 256 + plan.spcr1 % 256;
-    planner::quickest::revise(points, window, plan, spcr0, spcr1)
+    tool_plan::quickest::revise(points, window, plan, spcr0, spcr1)
 }
 
 // Why there is no plan: with no end to the window there would be one, or there is none at all.

@@ -1,5 +1,5 @@
 // Set-points as text, a line each: select and bits in decimal, the word in hexadecimal. A number sign begins a comment.
-use planner::SetPoints;
+use tool_plan::SetPoints;
 
 // Where the reading stands: the set-points so far; the words that this line has given, and the one under way, with its place; the line and
 // the column, from 1.

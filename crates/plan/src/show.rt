@@ -2,10 +2,10 @@
 ghost use Prim.Native.Nat.{_≤_};
 use files::output::write_first;
 use libc::STDOUT_FILENO;
-use planner::Plan;
-use planner::SetPoints;
-use planner::load::HostWrite;
 use text::line::Line;
+use tool_plan::Plan;
+use tool_plan::SetPoints;
+use tool_plan::load::HostWrite;
 
 // Whether it could be written.
 pub fn write_line(line: Line) -> bool {
@@ -20,7 +20,7 @@ fn minus(a: u64, b: u64) -> u64 {
 
 // SPCR2 as loading writes it.
 fn spcr2(plan: Plan) -> u16 {
-    let w = planner::load::write(plan, plan.count as u16 * 2 + 1);
+    let w = tool_plan::load::write(plan, plan.count as u16 * 2 + 1);
     (w.value % 65536) as u16
 }
 
@@ -133,10 +133,10 @@ pub fn trace(plan: Plan) {
         offset: 0x16,
         width: 2,
     });
-    let n = planner::load::writes(plan);
+    let n = tool_plan::load::writes(plan);
     let mut i: u16 = 0;
     while i < n {
-        put_write(planner::load::write(plan, i));
+        put_write(tool_plan::load::write(plan, i));
         i += 1;
     }
     run_for(plan.clock);

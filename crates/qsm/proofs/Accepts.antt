@@ -6,14 +6,14 @@ use native.Mathlib.Omega.{arith}
 use lib.Dec.{leb}
 use lib.Bits.{and-high}
 use Rattle.steps.specs.Bits.{bit}
-use Rattle.sci.specs.Control.{TE, RE, sccr1Bits}
-use Rattle.sci.specs.Serial.{active, sccr0Guarded, sccr1Guarded}
-use Rattle.qsm.specs.Map.{decode}
-use Rattle.qsm.specs.Own.{ownUnmodelled}
-use Rattle.qsm.specs.Serial.{peekSerial, serialUnmodelled, serialGuarded}
-use Rattle.qsm.specs.Queue.{peekQueue, queueUnmodelled, queueGuarded}
-use Rattle.qsm.specs.Word.{peek, unmodelled, guarded}
-use Rattle.qsm.specs.Registers.{row, AtRest, Accepted, Accepts}
+use Rattle.sci.specs.model.Control.{TE, RE, sccr1Bits}
+use Rattle.sci.specs.model.Serial.{active, sccr0Guarded, sccr1Guarded}
+use Rattle.qsm.specs.model.Map.{decode}
+use Rattle.qsm.specs.model.Own.{ownUnmodelled}
+use Rattle.qsm.specs.model.Serial.{peekSerial, serialUnmodelled, serialGuarded}
+use Rattle.qsm.specs.model.Queue.{peekQueue, queueUnmodelled, queueGuarded}
+use Rattle.qsm.specs.model.Word.{peek, unmodelled, guarded}
+use Rattle.qsm.specs.claims.Registers.{row, AtRest, Accepted, Accepts}
 use Rattle.qsm.specs.declared.state.Module.{Module}
 use Rattle.qsm.proofs.Booleans.{same-digit}
 use Rattle.qsm.proofs.Masks.{mask-6001}

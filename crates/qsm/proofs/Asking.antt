@@ -1,15 +1,15 @@
 -- Who asks: a half asks where one of its flags does. Assumes nothing.
 use mathlib.Core.Path.{_≡_, refl, sym, ap, _∙_}
 use mathlib.Core.Bool.{Bool, true, false, _&&_, _||_}
-use Rattle.sci.specs.Flags as flags
-use Rattle.sci.specs.Status.{has}
-use Rattle.sci.specs.Control.{TIE, TCIE, RIE, ILIE}
-use Rattle.sci.specs.Serial as serial
+use Rattle.sci.specs.model.Flags as flags
+use Rattle.sci.specs.model.Status.{has}
+use Rattle.sci.specs.model.Control.{TIE, TCIE, RIE, ILIE}
+use Rattle.sci.specs.model.Serial as serial
 use Rattle.sci.proofs.Membership.{and-right}
-use Rattle.qspi.specs.Fields.{spifie, hmie}
-use Rattle.qspi.specs.Outputs as queue
-use Rattle.qsm.specs.StatusFlags.{Half, SCI, QSPI, Flag, TDRE, TC, RDRF, RAF, IDLE, OR, NF, FE, PF, SPIF, MODF, HALTA, half, isSet}
-use Rattle.qsm.specs.RequestClauses.{enabled, asks}
+use Rattle.qspi.specs.model.Fields.{spifie, hmie}
+use Rattle.qspi.specs.model.Outputs as queue
+use Rattle.qsm.specs.claims.StatusFlags.{Half, SCI, QSPI, Flag, TDRE, TC, RDRF, RAF, IDLE, OR, NF, FE, PF, SPIF, MODF, HALTA, half, isSet}
+use Rattle.qsm.specs.claims.RequestClauses.{enabled, asks}
 use Rattle.qsm.specs.declared.state.Module.{Module}
 use Rattle.qsm.proofs.Booleans.{left-or, right-or, same-or, one-of, clash}
 use Rattle.qsm.proofs.StatusFlags.{scsr-flag, controls, spif-read, modf-read, halta-read, hmie-read}

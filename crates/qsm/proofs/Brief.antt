@@ -5,22 +5,22 @@ use mathlib.Core.Path.{_≡_, refl, sym, ap, _∙_}
 use native.Mathlib.Omega.{arith}
 use lib.Dec.{ltb}
 use Rattle.steps.specs.Iterate.{iterate}
-use Rattle.sci.specs.Serial.{active, clocked}
-use Rattle.sci.specs.Quiet as serial
+use Rattle.sci.specs.model.Serial.{active, clocked}
+use Rattle.sci.specs.quick.Quiet as serial
 use Rattle.sci.proofs.Quiet.{plays}
 use Rattle.sci.proofs.Rest.{rest-sampled}
 use Rattle.sci.specs.declared.serial.Sci.{Sci}
-use Rattle.qspi.specs.Fields.{spe}
-use Rattle.qspi.specs.Entry.{edgeFallen}
-use Rattle.qspi.specs.Queue.{clock, misoOf}
-use Rattle.qspi.specs.Parts.{withEntry}
-use Rattle.qspi.specs.Quiet as queue
+use Rattle.qspi.specs.model.Fields.{spe}
+use Rattle.qspi.specs.model.Entry.{edgeFallen}
+use Rattle.qspi.specs.model.Queue.{clock, misoOf}
+use Rattle.qspi.specs.model.Parts.{withEntry}
+use Rattle.qspi.specs.quick.Quiet as queue
 use Rattle.qspi.proofs.Quiet.{edge-turn, edge-fits}
 use Rattle.qspi.specs.declared.Qspi.{Qspi}
 use Rattle.qspi.specs.declared.Pins.{Pins}
-use Rattle.qsm.specs.State.{withSci, withQspi}
-use Rattle.qsm.specs.Event.{done, pinsOf, passes, clocks, held, holds}
-use Rattle.qsm.specs.Holding.{heldOf, entryHeld}
+use Rattle.qsm.specs.model.State.{withSci, withQspi}
+use Rattle.qsm.specs.model.Event.{done, pinsOf, passes, clocks, held, holds}
+use Rattle.qsm.specs.quick.Holding.{heldOf, entryHeld}
 use Rattle.qsm.specs.declared.state.Module.{Module}
 use Rattle.qsm.proofs.Clocks.{counting, apart}
 

@@ -4,12 +4,12 @@ use mathlib.Core.Bool.{Bool}
 use mathlib.Core.Path.{_≡_, refl, ap, _∙_}
 use native.Mathlib.Omega.{arith}
 use Rattle.steps.specs.Iterate.{iterate}
-use Rattle.sci.specs.Serial.{clocked}
+use Rattle.sci.specs.model.Serial.{clocked}
 use Rattle.sci.specs.declared.serial.Sci.{Sci}
-use Rattle.qspi.specs.Queue.{clock}
+use Rattle.qspi.specs.model.Queue.{clock}
 use Rattle.qspi.specs.declared.Qspi.{Qspi}
-use Rattle.qsm.specs.State.{withSci, withQspi}
-use Rattle.qsm.specs.Event.{clockModule, pinsOf}
+use Rattle.qsm.specs.model.State.{withSci, withQspi}
+use Rattle.qsm.specs.model.Event.{clockModule, pinsOf}
 use Rattle.qsm.specs.declared.state.Module.{Module}
 
 -- The module with another count of clocks.

@@ -4,11 +4,11 @@ use mathlib.Core.Bool.{Bool, true, false, cond}
 use Prim.Native.Nat.{ℕ, _+_, _≤_}
 use native.Mathlib.Omega.{arith}
 use lib.Dec.{eqb}
-use Rattle.qsm.specs.Word.{put}
-use Rattle.qsm.specs.Decision.{refusalOf, permits, decideRead, storedBy, decideStored}
-use Rattle.qsm.specs.Event.{done, answerOf, clockLimit, passes, afterRead, readValue, refused, resets, reads, writes, does, step}
-use Rattle.qsm.specs.State.{resetModule}
-use Rattle.qsm.specs.Count.{countAfter, Counting}
+use Rattle.qsm.specs.model.Word.{put}
+use Rattle.qsm.specs.model.Decision.{refusalOf, permits, decideRead, storedBy, decideStored}
+use Rattle.qsm.specs.model.Event.{done, answerOf, clockLimit, passes, afterRead, readValue, refused, resets, reads, writes, does, step}
+use Rattle.qsm.specs.model.State.{resetModule}
+use Rattle.qsm.specs.claims.Count.{countAfter, Counting}
 use Rattle.qsm.specs.declared.state.Module.{Module}
 use Rattle.qsm.specs.declared.map.Place.{Place}
 use Rattle.qsm.specs.declared.map.Place.the-variants.{Own, Serial, Queue, Hole}

@@ -7,23 +7,23 @@ use lib.Dec.{eqb, leb}
 use borrow.Author.Tests.{eqb-true, ne-eqb, leb-true}
 use Rattle.steps.specs.Iterate.{iterate}
 use Rattle.steps.specs.Bits.{bit}
-use Rattle.sci.specs.Control.{RE}
-use Rattle.sci.specs.Serial.{sccr1Word, stopped, sccr0Set, withSccr1, wroteSccr0, wroteSccr1}
+use Rattle.sci.specs.model.Control.{RE}
+use Rattle.sci.specs.model.Serial.{sccr1Word, stopped, sccr0Set, withSccr1, wroteSccr0, wroteSccr1}
 use Rattle.sci.proofs.Membership.{and-left, and-right}
 use Rattle.sci.specs.declared.serial.Sci.{Sci}
-use Rattle.qspi.specs.Parts.{withRegisters}
-use Rattle.qspi.specs.Registers.{withSpcr1, switched, writeSpcr1}
+use Rattle.qspi.specs.model.Parts.{withRegisters}
+use Rattle.qspi.specs.model.Registers.{withSpcr1, switched, writeSpcr1}
 use Rattle.qspi.specs.declared.Qspi.{Qspi}
-use Rattle.qsm.specs.Map.{decode, mapped}
-use Rattle.qsm.specs.State.{withSci, withQspi}
-use Rattle.qsm.specs.Own.{peekOwn, putOwn}
-use Rattle.qsm.specs.Serial.{peekSerial, putSerial}
-use Rattle.qsm.specs.Queue.{peekQueue, putQueue}
-use Rattle.qsm.specs.Word.{peek, put}
-use Rattle.qsm.specs.Access.{store, stored}
-use Rattle.qsm.specs.Decision.{permits, storedBy, decideStored}
-use Rattle.qsm.specs.Event.{refused, writes, does, step}
-use Rattle.qsm.specs.Registers.{reading, writing, Sized, Elsewhere}
+use Rattle.qsm.specs.model.Map.{decode, mapped}
+use Rattle.qsm.specs.model.State.{withSci, withQspi}
+use Rattle.qsm.specs.model.Own.{peekOwn, putOwn}
+use Rattle.qsm.specs.model.Serial.{peekSerial, putSerial}
+use Rattle.qsm.specs.model.Queue.{peekQueue, putQueue}
+use Rattle.qsm.specs.model.Word.{peek, put}
+use Rattle.qsm.specs.model.Access.{store, stored}
+use Rattle.qsm.specs.model.Decision.{permits, storedBy, decideStored}
+use Rattle.qsm.specs.model.Event.{refused, writes, does, step}
+use Rattle.qsm.specs.claims.Registers.{reading, writing, Sized, Elsewhere}
 use Rattle.qsm.specs.declared.state.Module.{Module}
 use Rattle.qsm.specs.declared.map.Place.{Place}
 use Rattle.qsm.specs.declared.map.Place.the-variants.{Own, Serial, Queue, Hole}

@@ -5,7 +5,7 @@ use Prim.Native.Nat.{ℕ, _+_, _-_, _≤_, _<_}
 use native.Mathlib.Omega.{arith}
 use lib.Dec.{ltb}
 use borrow.Author.Tests.{lt-ltb, le-ltb, ltb-true, ltb-false}
-use Rattle.qsm.specs.Event.{done, clockLimit, passes, clocks, held, holds, does}
+use Rattle.qsm.specs.model.Event.{done, clockLimit, passes, clocks, held, holds, does}
 use Rattle.qsm.specs.declared.state.Module.{Module}
 use Rattle.qsm.specs.declared.event.Event.the-variants.{Hold}
 use Rattle.qsm.specs.declared.event.Done.{Done}

@@ -4,23 +4,23 @@ use mathlib.Core.Bool.{Bool, true, false, not, _&&_}
 use Prim.Native.Nat.{ℕ}
 use lib.Dec.{eqb}
 use Rattle.steps.specs.Bits.{bit, merge}
-use Rattle.sci.specs.Flags.{RAF}
-use Rattle.sci.specs.Status.{fall, fallSeen}
-use Rattle.sci.specs.Control.{RE, sccr0Bits}
-use Rattle.sci.specs.Serial.{sccr0Set, stopped, withSccr1, sccr1Word, wroteSccr0, wroteSccr1}
+use Rattle.sci.specs.model.Flags.{RAF}
+use Rattle.sci.specs.model.Status.{fall, fallSeen}
+use Rattle.sci.specs.model.Control.{RE, sccr0Bits}
+use Rattle.sci.specs.model.Serial.{sccr0Set, stopped, withSccr1, sccr1Word, wroteSccr0, wroteSccr1}
 use Rattle.sci.specs.declared.serial.Sci.{Sci}
 use Rattle.sci.specs.declared.flags.Flags.{Flags}
 use Rattle.sci.specs.declared.status.Status.{Status}
 use Rattle.sci.proofs.Membership.{and-left, bit-less}
-use Rattle.qspi.specs.Fields.{spe}
-use Rattle.qspi.specs.Parts.{withRegisters}
-use Rattle.qspi.specs.Registers.{withSpcr1, switched, writeSpcr1}
-use Rattle.qspi.specs.Spsr.{falls}
+use Rattle.qspi.specs.model.Fields.{spe}
+use Rattle.qspi.specs.model.Parts.{withRegisters}
+use Rattle.qspi.specs.model.Registers.{withSpcr1, switched, writeSpcr1}
+use Rattle.qspi.specs.model.Spsr.{falls}
 use Rattle.qspi.specs.declared.Qspi.{Qspi}
-use Rattle.qsm.specs.Serial.{putSerial}
-use Rattle.qsm.specs.Queue.{putQueue}
-use Rattle.qsm.specs.Word.{put}
-use Rattle.qsm.specs.SeenClauses.{spifSeen, modfSeen, haltaSeen, inScsr}
+use Rattle.qsm.specs.model.Serial.{putSerial}
+use Rattle.qsm.specs.model.Queue.{putQueue}
+use Rattle.qsm.specs.model.Word.{put}
+use Rattle.qsm.specs.claims.SeenClauses.{spifSeen, modfSeen, haltaSeen, inScsr}
 use Rattle.qsm.specs.declared.state.Module.{Module}
 use Rattle.qsm.specs.declared.map.Place.{Place}
 use Rattle.qsm.specs.declared.map.Place.the-variants.{Own, Serial, Queue, Hole}

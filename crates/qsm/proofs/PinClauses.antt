@@ -5,15 +5,15 @@ use Prim.Native.Nat.{ℕ, _+_, _*_, _/_, _%_, _<_}
 use native.Mathlib.Omega.{arith}
 use borrow.Author.Tests.{ne-eqb}
 use Rattle.steps.specs.Bits.{bit}
-use Rattle.sci.specs.Transmitter.{runs}
-use Rattle.sci.specs.Serial.{txd, txdDriven}
+use Rattle.sci.specs.model.Transmitter.{runs}
+use Rattle.sci.specs.model.Serial.{txd, txdDriven}
 use Rattle.sci.proofs.Membership.{bit-or, bit-and, bit-less}
-use Rattle.qspi.specs.Outputs.{sck, pcs}
-use Rattle.qspi.specs.Outputs as queue
-use Rattle.qsm.specs.Pins.{outputs, mask, owned, ownLevels, levels, portqsRead}
-use Rattle.qsm.specs.Event.{answerOf, does, step}
-use Rattle.qsm.specs.StatusFlags.{readAt}
-use Rattle.qsm.specs.PinClauses.{SPE, transmitting, mosi, PinClauses}
+use Rattle.qspi.specs.model.Outputs.{sck, pcs}
+use Rattle.qspi.specs.model.Outputs as queue
+use Rattle.qsm.specs.model.Pins.{outputs, mask, owned, ownLevels, levels, portqsRead}
+use Rattle.qsm.specs.model.Event.{answerOf, does, step}
+use Rattle.qsm.specs.claims.StatusFlags.{readAt}
+use Rattle.qsm.specs.claims.PinClauses.{SPE, transmitting, mosi, PinClauses}
 use Rattle.qsm.specs.declared.state.Module.{Module}
 use Rattle.qsm.specs.declared.event.Event.{Event}
 use Rattle.qsm.specs.declared.pins.Outputs.{Outputs}

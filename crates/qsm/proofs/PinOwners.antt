@@ -5,7 +5,7 @@ use Prim.Native.Nat.{ℕ, zero, suc, _+_, _*_, _/_, _%_, _<_}
 use native.Mathlib.Omega.{arith}
 use Rattle.steps.specs.Bits.{bit}
 use Rattle.sci.proofs.Membership.{bit-or, bit-and, bit-less}
-use Rattle.qsm.specs.Pins.{mask, owned, ownLevels, levels, portqsRead}
+use Rattle.qsm.specs.model.Pins.{mask, owned, ownLevels, levels, portqsRead}
 use Rattle.qsm.specs.declared.pins.Outputs.{Outputs}
 use Rattle.qsm.proofs.Booleans.{and-true, constants, same-digit}
 

@@ -9,10 +9,10 @@ use lib.ListN.{length, getD, set, length-set}
 use lib.Seq.{getD-set-same, getD-set-other}
 use borrow.Author.Tests.{eqb-true, eqb-false, eq-eqb, ne-eqb, ltb-true, ltb-false}
 use Rattle.steps.specs.Bits.{merge}
-use Rattle.qsm.specs.Map.{decode, mapped}
-use Rattle.qsm.specs.Queue.{peekQueue, putQueue, queueUnmodelled, queueGuarded}
-use Rattle.qsm.specs.Word.{peek, put, unmodelled, guarded}
-use Rattle.qsm.specs.Registers.{writing, Sized, RamWrite, RamReadsBack}
+use Rattle.qsm.specs.model.Map.{decode, mapped}
+use Rattle.qsm.specs.model.Queue.{peekQueue, putQueue, queueUnmodelled, queueGuarded}
+use Rattle.qsm.specs.model.Word.{peek, put, unmodelled, guarded}
+use Rattle.qsm.specs.claims.Registers.{writing, Sized, RamWrite, RamReadsBack}
 use Rattle.qsm.specs.declared.state.Module.{Module}
 use Rattle.qsm.specs.declared.map.QueueWord.the-variants.{Receive, Transmit, Command}
 use Rattle.qsm.specs.declared.map.Place.{Place}

@@ -5,7 +5,7 @@ use Prim.Native.Nat.{ℕ, _+_, _-_, _*_, _/_, _<_, _≤_}
 use native.Mathlib.Omega.{arith}
 use lib.Dec.{eqb, ltb, leb}
 use borrow.Author.Tests.{le-leb, lt-leb, leb-true, leb-false, ltb-true, ltb-false, eqb-true, eqb-false}
-use Rattle.qsm.specs.Map.{from, decode}
+use Rattle.qsm.specs.model.Map.{from, decode}
 use Rattle.qsm.specs.declared.map.OwnWord.the-variants.{Qsmcr, QilrQivr, Portqs, PqsparDdrqs}
 use Rattle.qsm.specs.declared.map.SerialWord.the-variants.{Sccr0, Sccr1, Scsr, Scdr}
 use Rattle.qsm.specs.declared.map.QueueWord.the-variants.{Spcr0, Spcr1, Spcr2, Spcr3Spsr, Receive, Transmit, Command}

@@ -4,19 +4,19 @@ use Prim.Native.Nat.{_/_, _%_}
 use native.Mathlib.Nat.{zero-add}
 use native.Mathlib.Omega.{arith}
 use Rattle.steps.specs.Iterate.{iterate}
-use Rattle.sci.specs.Serial.{sccr1Word}
-use Rattle.qspi.specs.Registers.{spcr3Spsr}
-use Rattle.qsm.specs.Map.{decode}
-use Rattle.qsm.specs.Pins.{outputs, portqsRead}
-use Rattle.qsm.specs.Own.{peekOwn}
-use Rattle.qsm.specs.Serial.{peekSerial}
-use Rattle.qsm.specs.Queue.{peekQueue}
-use Rattle.qsm.specs.Word.{peek}
-use Rattle.qsm.specs.Lanes.{inMap}
-use Rattle.qsm.specs.Access.{fetch, fetched}
-use Rattle.qsm.specs.Decision.{admitted, decideRead}
-use Rattle.qsm.specs.Event.{readValue, reads, does}
-use Rattle.qsm.specs.StatusFlags.{readAt}
+use Rattle.sci.specs.model.Serial.{sccr1Word}
+use Rattle.qspi.specs.model.Registers.{spcr3Spsr}
+use Rattle.qsm.specs.model.Map.{decode}
+use Rattle.qsm.specs.model.Pins.{outputs, portqsRead}
+use Rattle.qsm.specs.model.Own.{peekOwn}
+use Rattle.qsm.specs.model.Serial.{peekSerial}
+use Rattle.qsm.specs.model.Queue.{peekQueue}
+use Rattle.qsm.specs.model.Word.{peek}
+use Rattle.qsm.specs.model.Lanes.{inMap}
+use Rattle.qsm.specs.model.Access.{fetch, fetched}
+use Rattle.qsm.specs.model.Decision.{admitted, decideRead}
+use Rattle.qsm.specs.model.Event.{readValue, reads, does}
+use Rattle.qsm.specs.claims.StatusFlags.{readAt}
 use Rattle.qsm.specs.declared.state.Module.{Module}
 
 pub scsr-read : (m : Module) → readAt m 2 0x0C ≡ m .sci .status .flags .bits % 512

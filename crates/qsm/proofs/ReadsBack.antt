@@ -8,21 +8,21 @@ use lib.Dec.{eqb}
 use lib.Bits.{bitAnd, bitOr, and-zero-r, or-zero-r, and-mask, or-shifted, or-lt, and-le-r}
 use borrow.Author.Tests.{eqb-true, eqb-false}
 use Rattle.steps.specs.Bits.{bit, digit}
-use Rattle.sci.specs.Control.{RE, sccr1Bits}
-use Rattle.sci.specs.Serial.{sccr1Word, sccr0Set, stopped, withSccr1, wroteSccr0, wroteSccr1}
+use Rattle.sci.specs.model.Control.{RE, sccr1Bits}
+use Rattle.sci.specs.model.Serial.{sccr1Word, sccr0Set, stopped, withSccr1, wroteSccr0, wroteSccr1}
 use Rattle.sci.specs.declared.serial.Sci.{Sci}
-use Rattle.qspi.specs.Parts.{withRegisters}
-use Rattle.qspi.specs.Registers.{spcr1Word, withSpcr1, switched, writeSpcr1}
-use Rattle.qspi.specs.Spsr.{spsrByte}
+use Rattle.qspi.specs.model.Parts.{withRegisters}
+use Rattle.qspi.specs.model.Registers.{spcr1Word, withSpcr1, switched, writeSpcr1}
+use Rattle.qspi.specs.model.Spsr.{spsrByte}
 use Rattle.qspi.specs.declared.Qspi.{Qspi}
 use Rattle.qspi.specs.declared.spsr.Spsr.{Spsr}
-use Rattle.qsm.specs.Map.{decode}
-use Rattle.qsm.specs.Pins.{outputs, without, mask, levels, portqsRead}
-use Rattle.qsm.specs.Own.{peekOwn, putOwn}
-use Rattle.qsm.specs.Serial.{peekSerial, putSerial}
-use Rattle.qsm.specs.Queue.{peekQueue, putQueue, queueUnmodelled}
-use Rattle.qsm.specs.Word.{peek, put, unmodelled}
-use Rattle.qsm.specs.Registers.{row, Sized, ReadBack, ReadsBack}
+use Rattle.qsm.specs.model.Map.{decode}
+use Rattle.qsm.specs.model.Pins.{outputs, without, mask, levels, portqsRead}
+use Rattle.qsm.specs.model.Own.{peekOwn, putOwn}
+use Rattle.qsm.specs.model.Serial.{peekSerial, putSerial}
+use Rattle.qsm.specs.model.Queue.{peekQueue, putQueue, queueUnmodelled}
+use Rattle.qsm.specs.model.Word.{peek, put, unmodelled}
+use Rattle.qsm.specs.claims.Registers.{row, Sized, ReadBack, ReadsBack}
 use Rattle.qsm.specs.declared.state.Module.{Module}
 use Rattle.qsm.specs.declared.pins.Outputs.{Outputs}
 use Rattle.qsm.specs.declared.map.OwnWord.the-variants.{Portqs}

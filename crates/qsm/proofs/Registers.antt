@@ -7,14 +7,14 @@ use native.Mathlib.Omega.{arith}
 use lib.Dec.{eqb}
 use borrow.Author.Tests.{eq-eqb, ne-eqb}
 use Rattle.steps.specs.Iterate.{iterate}
-use Rattle.qsm.specs.Map.{decode, mapped}
-use Rattle.qsm.specs.Lanes as lanes
-use Rattle.qsm.specs.Serial.{peekSerial}
-use Rattle.qsm.specs.Word.{peek}
-use Rattle.qsm.specs.Access.{fetch, fetched}
-use Rattle.qsm.specs.Decision.{admitted, decideRead}
-use Rattle.qsm.specs.Event.{answerOf, readValue, refused, reads, does, step}
-use Rattle.qsm.specs.Registers.{reading, Widths, NineBits, Registers}
+use Rattle.qsm.specs.model.Map.{decode, mapped}
+use Rattle.qsm.specs.model.Lanes as lanes
+use Rattle.qsm.specs.model.Serial.{peekSerial}
+use Rattle.qsm.specs.model.Word.{peek}
+use Rattle.qsm.specs.model.Access.{fetch, fetched}
+use Rattle.qsm.specs.model.Decision.{admitted, decideRead}
+use Rattle.qsm.specs.model.Event.{answerOf, readValue, refused, reads, does, step}
+use Rattle.qsm.specs.claims.Registers.{reading, Widths, NineBits, Registers}
 use Rattle.qsm.specs.declared.state.Module.{Module}
 use Rattle.qsm.proofs.Booleans.{on}
 use Rattle.qsm.proofs.Ranges.{decodeWord, by-words}

@@ -6,11 +6,11 @@ use native.Mathlib.Omega.{arith}
 use lib.Dec.{eqb, leb}
 use borrow.Author.Tests.{leb-true, leb-false, eqb-true, eqb-false, eq-eqb, ne-eqb}
 use Rattle.steps.specs.Bits.{bit}
-use Rattle.qsm.specs.Pins.{outputs, mask, levels}
-use Rattle.qsm.specs.Request.{vectorOf, request}
-use Rattle.qsm.specs.Event.{answerOf, does, step}
-use Rattle.qsm.specs.StatusFlags.{Half, SCI, QSPI, Flag, half}
-use Rattle.qsm.specs.RequestClauses.{asks, levelOf, lowBit, RequestClauses}
+use Rattle.qsm.specs.model.Pins.{outputs, mask, levels}
+use Rattle.qsm.specs.model.Request.{vectorOf, request}
+use Rattle.qsm.specs.model.Event.{answerOf, does, step}
+use Rattle.qsm.specs.claims.StatusFlags.{Half, SCI, QSPI, Flag, half}
+use Rattle.qsm.specs.claims.RequestClauses.{asks, levelOf, lowBit, RequestClauses}
 use Rattle.qsm.specs.declared.state.Module.{Module}
 use Rattle.qsm.specs.declared.request.Request.{Request}
 use Rattle.qsm.specs.declared.event.Event.{Event}

@@ -7,21 +7,21 @@ use native.Mathlib.Omega.{arith}
 use lib.Dec.{eqb, ltb}
 use borrow.Author.Tests.{eqb-true, eqb-false, eq-eqb, ne-eqb, ltb-true, ltb-false}
 use Rattle.steps.specs.Iterate.{iterate}
-use Rattle.sci.specs.Status.{fall, fallSeen, markSeen}
+use Rattle.sci.specs.model.Status.{fall, fallSeen, markSeen}
 use Rattle.sci.proofs.Membership.{and-left, and-right}
-use Rattle.qspi.specs.Registers.{reset}
-use Rattle.qsm.specs.State.{resetModule}
-use Rattle.qsm.specs.Map.{decode}
-use Rattle.qsm.specs.Lanes as lanes
-use Rattle.qsm.specs.Pins.{mask, owned, ownLevels, levels, portqsRead}
-use Rattle.qsm.specs.Own.{peekOwn}
-use Rattle.qsm.specs.Serial.{peekSerial, serialRead}
-use Rattle.qsm.specs.Queue.{peekQueue, queueRead}
-use Rattle.qsm.specs.Word.{peek}
-use Rattle.qsm.specs.Access.{fetch, fetched}
-use Rattle.qsm.specs.Decision.{shaped, admitted, decideRead}
-use Rattle.qsm.specs.Event.{done, answerOf, afterRead, readValue, refused, resets, reads, does, step}
-use Rattle.qsm.specs.Registers.{Row, registers, listed, inMap, resetValue, AfterReset, ResetReads}
+use Rattle.qspi.specs.model.Registers.{reset}
+use Rattle.qsm.specs.model.State.{resetModule}
+use Rattle.qsm.specs.model.Map.{decode}
+use Rattle.qsm.specs.model.Lanes as lanes
+use Rattle.qsm.specs.model.Pins.{mask, owned, ownLevels, levels, portqsRead}
+use Rattle.qsm.specs.model.Own.{peekOwn}
+use Rattle.qsm.specs.model.Serial.{peekSerial, serialRead}
+use Rattle.qsm.specs.model.Queue.{peekQueue, queueRead}
+use Rattle.qsm.specs.model.Word.{peek}
+use Rattle.qsm.specs.model.Access.{fetch, fetched}
+use Rattle.qsm.specs.model.Decision.{shaped, admitted, decideRead}
+use Rattle.qsm.specs.model.Event.{done, answerOf, afterRead, readValue, refused, resets, reads, does, step}
+use Rattle.qsm.specs.claims.Registers.{Row, registers, listed, inMap, resetValue, AfterReset, ResetReads}
 use Rattle.qsm.specs.declared.state.Module.{Module}
 use Rattle.qsm.specs.declared.event.Done.{Done}
 use Rattle.qsm.proofs.Booleans.{on}

@@ -3,21 +3,21 @@ use mathlib.Core.Path.{_≡_, refl, sym, _∙_}
 use mathlib.Core.Bool.{Bool, true, false, not, _&&_, _||_}
 use Prim.Native.Nat.{ℕ, _+_, _<_}
 use Rattle.steps.specs.Bits.{bit}
-use Rattle.sci.specs.Status.{fall, markSeen, fallSeen}
+use Rattle.sci.specs.model.Status.{fall, markSeen, fallSeen}
 use Rattle.sci.specs.declared.serial.Sci.{Sci}
 use Rattle.sci.specs.declared.flags.Flags.{Flags}
 use Rattle.sci.specs.declared.status.Status.{Status}
 use Rattle.sci.proofs.Membership.{and-left, and-right, bit-or, bit-less}
-use Rattle.qspi.specs.Registers.{statusRead}
+use Rattle.qspi.specs.model.Registers.{statusRead}
 use Rattle.qspi.specs.declared.Qspi.{Qspi}
-use Rattle.qsm.specs.Lanes.{touches}
-use Rattle.qsm.specs.Serial.{serialRead}
-use Rattle.qsm.specs.Queue.{queueRead}
-use Rattle.qsm.specs.Word.{put}
-use Rattle.qsm.specs.Decision.{permits, decideRead, storedBy, decideStored}
-use Rattle.qsm.specs.Event.{afterRead, readValue, refused, reads, writes, does, step}
-use Rattle.qsm.specs.StatusFlags.{Half, SCI, QSPI, Flag, TDRE, TC, RDRF, RAF, IDLE, OR, NF, FE, PF, SPIF, MODF, HALTA, half, readAt, isSet}
-use Rattle.qsm.specs.SeenClauses.{spifSeen, modfSeen, haltaSeen, inScsr, isSeen, statusByte, Looks, SeenClauses}
+use Rattle.qsm.specs.model.Lanes.{touches}
+use Rattle.qsm.specs.model.Serial.{serialRead}
+use Rattle.qsm.specs.model.Queue.{queueRead}
+use Rattle.qsm.specs.model.Word.{put}
+use Rattle.qsm.specs.model.Decision.{permits, decideRead, storedBy, decideStored}
+use Rattle.qsm.specs.model.Event.{afterRead, readValue, refused, reads, writes, does, step}
+use Rattle.qsm.specs.claims.StatusFlags.{Half, SCI, QSPI, Flag, TDRE, TC, RDRF, RAF, IDLE, OR, NF, FE, PF, SPIF, MODF, HALTA, half, readAt, isSet}
+use Rattle.qsm.specs.claims.SeenClauses.{spifSeen, modfSeen, haltaSeen, inScsr, isSeen, statusByte, Looks, SeenClauses}
 use Rattle.qsm.specs.declared.state.Module.{Module}
 use Rattle.qsm.specs.declared.map.Place.{Place}
 use Rattle.qsm.specs.declared.event.Access.{Access}

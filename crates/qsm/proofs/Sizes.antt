@@ -8,21 +8,21 @@ use lib.Dec.{leb}
 use lib.ListN.{length, set, length-set}
 use Rattle.steps.specs.Bits.{merge}
 use Rattle.steps.specs.Iterate.{iterate}
-use Rattle.qspi.specs.Fields.{spe, bitsOf}
-use Rattle.qspi.specs.Parts.{withRegisters, withEntry}
-use Rattle.qspi.specs.Entry.{edgeFallen}
-use Rattle.qspi.specs.Registers.{reset, withSpcr1, switched, writeSpcr1}
-use Rattle.qspi.specs.Queue.{stored, isLast, wraps, begun, misoOf, faultNow, ready, followed, completed, judged, edge, counted, playClock, delayed, delayClock, startIf, startClock, clockAt, clockIf, queueClock, faulted, clock}
+use Rattle.qspi.specs.model.Fields.{spe, bitsOf}
+use Rattle.qspi.specs.model.Parts.{withRegisters, withEntry}
+use Rattle.qspi.specs.model.Entry.{edgeFallen}
+use Rattle.qspi.specs.model.Registers.{reset, withSpcr1, switched, writeSpcr1}
+use Rattle.qspi.specs.model.Queue.{stored, isLast, wraps, begun, misoOf, faultNow, ready, followed, completed, judged, edge, counted, playClock, delayed, delayClock, startIf, startClock, clockAt, clockIf, queueClock, faulted, clock}
 use Rattle.qspi.specs.declared.Qspi.{Qspi}
 use Rattle.qspi.specs.declared.Pins.{Pins}
 use Rattle.qspi.specs.declared.ram.Ram.{Ram}
-use Rattle.qsm.specs.State.{resetModule}
-use Rattle.qsm.specs.Own.{putOwn}
-use Rattle.qsm.specs.Queue.{queueRead, putQueue}
-use Rattle.qsm.specs.Word.{put}
-use Rattle.qsm.specs.Decision.{permits, decideRead, storedBy, decideStored}
-use Rattle.qsm.specs.Event.{pinsOf, held, clocks, afterRead, readValue, refused, resets, reads, writes, does, step}
-use Rattle.qsm.specs.Registers.{Sized, Eight, Sizes}
+use Rattle.qsm.specs.model.State.{resetModule}
+use Rattle.qsm.specs.model.Own.{putOwn}
+use Rattle.qsm.specs.model.Queue.{queueRead, putQueue}
+use Rattle.qsm.specs.model.Word.{put}
+use Rattle.qsm.specs.model.Decision.{permits, decideRead, storedBy, decideStored}
+use Rattle.qsm.specs.model.Event.{pinsOf, held, clocks, afterRead, readValue, refused, resets, reads, writes, does, step}
+use Rattle.qsm.specs.claims.Registers.{Sized, Eight, Sizes}
 use Rattle.qsm.specs.declared.state.Module.{Module}
 use Rattle.qsm.specs.declared.map.Place.{Place}
 use Rattle.qsm.specs.declared.map.Place.the-variants.{Own, Serial, Queue, Hole}

@@ -6,8 +6,8 @@ use native.Mathlib.Omega.{arith}
 use borrow.Author.Tests.{lt-ltb}
 use Rattle.steps.specs.Iterate.{iterate}
 use Rattle.steps.proofs.Iterate.{iterate-add}
-use Rattle.qsm.specs.Event.{done, answered, clockLimit, passes, clockModule, clocks, held, holds, does, step}
-use Rattle.qsm.specs.Holds.{Splits, RefusedInParts, OneByOne, NoClocks, HeldInParts}
+use Rattle.qsm.specs.model.Event.{done, answered, clockLimit, passes, clockModule, clocks, held, holds, does, step}
+use Rattle.qsm.specs.claims.Holds.{Splits, RefusedInParts, OneByOne, NoClocks, HeldInParts}
 use Rattle.qsm.specs.declared.state.Module.{Module}
 use Rattle.qsm.specs.declared.event.Event.the-variants.{Hold}
 use Rattle.qsm.specs.declared.event.Done.{Done}

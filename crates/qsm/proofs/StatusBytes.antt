@@ -6,10 +6,10 @@ use native.Mathlib.Omega.{arith}
 use lib.Dec.{eqb, ltb, leb}
 use borrow.Author.Tests.{lt-ltb, ltb-true, eqb-true, eq-eqb, leb-true, leb-false}
 use Rattle.sci.proofs.Membership.{and-left, and-right}
-use Rattle.qsm.specs.Lanes.{touches}
-use Rattle.qsm.specs.Decision.{permits, admitted, decideRead}
-use Rattle.qsm.specs.StatusFlags.{Half, SCI, QSPI}
-use Rattle.qsm.specs.SeenClauses.{statusByte}
+use Rattle.qsm.specs.model.Lanes.{touches}
+use Rattle.qsm.specs.model.Decision.{permits, admitted, decideRead}
+use Rattle.qsm.specs.claims.StatusFlags.{Half, SCI, QSPI}
+use Rattle.qsm.specs.claims.SeenClauses.{statusByte}
 use Rattle.qsm.specs.declared.state.Module.{Module}
 use Rattle.qsm.proofs.Booleans.{both, left-or, right-or, one-of, on, clash}
 

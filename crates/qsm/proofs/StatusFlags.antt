@@ -4,13 +4,13 @@ use mathlib.Core.Bool.{Bool, true, false, cond}
 use Prim.Native.Nat.{ℕ, _+_, _*_, _/_, _%_, _^_, _<_}
 use native.Mathlib.Omega.{arith}
 use Rattle.steps.specs.Bits.{bit, digit}
-use Rattle.sci.specs.Flags.{flag}
-use Rattle.sci.specs.Members.{member}
-use Rattle.sci.specs.Status.{has}
+use Rattle.sci.specs.model.Flags.{flag}
+use Rattle.sci.specs.claims.Members.{member}
+use Rattle.sci.specs.model.Status.{has}
 use Rattle.sci.specs.declared.status.Status.{Status}
 use Rattle.sci.proofs.Membership.{contains-flag}
-use Rattle.qspi.specs.Registers.{spcr3Spsr}
-use Rattle.qsm.specs.StatusFlags.{readAt}
+use Rattle.qspi.specs.model.Registers.{spcr3Spsr}
+use Rattle.qsm.specs.claims.StatusFlags.{readAt}
 use Rattle.qsm.specs.declared.state.Module.{Module}
 use Rattle.qsm.proofs.Booleans.{same-digit, low-bit, digit-one}
 use Rattle.qsm.proofs.Reading.{scsr-read, sccr1-read, spcr3-read, spsr-read}

@@ -3,14 +3,14 @@ use mathlib.Core.Path.{_≡_, refl, ap, _∙_}
 use mathlib.Core.Bool.{Bool, true, false, cond}
 use Prim.Native.Nat.{ℕ, zero, suc}
 use Rattle.steps.specs.Iterate.{iterate}
-use Rattle.qsm.specs.Own.{putOwn}
-use Rattle.qsm.specs.Word.{put}
-use Rattle.qsm.specs.Lanes.{halves, upperLane, lowerLane, lined}
-use Rattle.qsm.specs.Access.{store, stored}
-use Rattle.qsm.specs.Decision.{permits, decideRead, storedBy, decideStored}
-use Rattle.qsm.specs.Event.{done, passes, held, clocks, afterRead, readValue, refused, resets, holds, reads, writes, does, step}
-use Rattle.qsm.specs.State.{resetModule}
-use Rattle.qsm.specs.PinClauses.{LastInput}
+use Rattle.qsm.specs.model.Own.{putOwn}
+use Rattle.qsm.specs.model.Word.{put}
+use Rattle.qsm.specs.model.Lanes.{halves, upperLane, lowerLane, lined}
+use Rattle.qsm.specs.model.Access.{store, stored}
+use Rattle.qsm.specs.model.Decision.{permits, decideRead, storedBy, decideStored}
+use Rattle.qsm.specs.model.Event.{done, passes, held, clocks, afterRead, readValue, refused, resets, holds, reads, writes, does, step}
+use Rattle.qsm.specs.model.State.{resetModule}
+use Rattle.qsm.specs.claims.PinClauses.{LastInput}
 use Rattle.qsm.specs.declared.state.Module.{Module}
 use Rattle.qsm.specs.declared.access.Store.{Store}
 use Rattle.qsm.specs.declared.map.Place.{Place}

@@ -4,26 +4,26 @@ use mathlib.Core.Path.{_≡_, refl}
 use Prim.Native.Nat.{ℕ, _+_, _*_, _%_}
 use native.Mathlib.Nat.{zero-add}
 use Rattle.steps.specs.Iterate.{iterate}
-use Rattle.sci.specs.Flags.{receiveFlags}
-use Rattle.sci.specs.Status.{markSeen, fallSeen}
-use Rattle.sci.specs.Serial.{withStatus}
+use Rattle.sci.specs.model.Flags.{receiveFlags}
+use Rattle.sci.specs.model.Status.{markSeen, fallSeen}
+use Rattle.sci.specs.model.Serial.{withStatus}
 use Rattle.sci.specs.declared.serial.Sci.{Sci}
-use Rattle.qspi.specs.Parts.{withSpsr}
-use Rattle.qspi.specs.Spsr.{flagsSeen}
+use Rattle.qspi.specs.model.Parts.{withSpsr}
+use Rattle.qspi.specs.model.Spsr.{flagsSeen}
 use Rattle.qspi.specs.declared.Qspi.{Qspi}
-use Rattle.qsm.specs.Map.{decode}
-use Rattle.qsm.specs.Word.{peek}
-use Rattle.qsm.specs.Lanes.{touches}
-use Rattle.qsm.specs.Access.{next, fetch, fetched}
-use Rattle.qsm.specs.Serial.{serialRead}
-use Rattle.qsm.specs.Queue.{queueRead}
-use Rattle.qsm.specs.State.{withSci, withQspi}
-use Rattle.qsm.specs.Decision.{refusalOf, permits}
-use Rattle.sci.specs.Serial as serial
-use Rattle.qspi.specs.Outputs as queue
-use Rattle.qsm.specs.Pins.{outputs, levels, mask}
-use Rattle.qsm.specs.Request.{request}
-use Rattle.qsm.specs.Event.{done, afterRead, readValue, readDecided, refused, answerOf, answered}
+use Rattle.qsm.specs.model.Map.{decode}
+use Rattle.qsm.specs.model.Word.{peek}
+use Rattle.qsm.specs.model.Lanes.{touches}
+use Rattle.qsm.specs.model.Access.{next, fetch, fetched}
+use Rattle.qsm.specs.model.Serial.{serialRead}
+use Rattle.qsm.specs.model.Queue.{queueRead}
+use Rattle.qsm.specs.model.State.{withSci, withQspi}
+use Rattle.qsm.specs.model.Decision.{refusalOf, permits}
+use Rattle.sci.specs.model.Serial as serial
+use Rattle.qspi.specs.model.Outputs as queue
+use Rattle.qsm.specs.model.Pins.{outputs, levels, mask}
+use Rattle.qsm.specs.model.Request.{request}
+use Rattle.qsm.specs.model.Event.{done, afterRead, readValue, readDecided, refused, answerOf, answered}
 use Rattle.qsm.specs.declared.state.Module.{Module}
 use Rattle.qsm.specs.declared.pins.Outputs.{Outputs}
 use Rattle.qsm.specs.declared.request.Request.{Request}

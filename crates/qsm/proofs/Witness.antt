@@ -2,22 +2,22 @@
 use mathlib.Core.Path.{refl}
 use native.Mathlib.Omega.{arith}
 use Rattle.steps.specs.Iterate.{iterate}
-use Rattle.sci.specs.Status.{has, fall, markSeen}
-use Rattle.sci.specs.Serial.{clocked, wroteSccr1, sccr1Guarded}
-use Rattle.qspi.specs.Registers.{reset, writeSpcr1}
-use Rattle.qspi.specs.Queue.{clock, queueClock}
-use Rattle.qsm.specs.State.{resetModule}
-use Rattle.qsm.specs.Map.{decode}
-use Rattle.qsm.specs.Lanes.{inMap, isRestricted}
-use Rattle.qsm.specs.Own.{putOwn, ownUnmodelled}
-use Rattle.qsm.specs.Serial.{peekSerial, putSerial, serialUnmodelled, serialGuarded, serialRead}
-use Rattle.qsm.specs.Queue.{peekQueue, putQueue, queueUnmodelled, queueGuarded, queueRead}
-use Rattle.qsm.specs.Word.{peek, put, unmodelled, guarded}
-use Rattle.qsm.specs.Access.{fetch, fetched, store, stored}
-use Rattle.qsm.specs.Decision.{admitted, decideRead, storedBy, decideStored}
-use Rattle.qsm.specs.Request.{request}
-use Rattle.qsm.specs.Event.{answerOf, clockModule, clocks, afterRead, readValue, refused, holds, reads, writes, does, step}
-use Rattle.qsm.specs.Witness.{Met}
+use Rattle.sci.specs.model.Status.{has, fall, markSeen}
+use Rattle.sci.specs.model.Serial.{clocked, wroteSccr1, sccr1Guarded}
+use Rattle.qspi.specs.model.Registers.{reset, writeSpcr1}
+use Rattle.qspi.specs.model.Queue.{clock, queueClock}
+use Rattle.qsm.specs.model.State.{resetModule}
+use Rattle.qsm.specs.model.Map.{decode}
+use Rattle.qsm.specs.model.Lanes.{inMap, isRestricted}
+use Rattle.qsm.specs.model.Own.{putOwn, ownUnmodelled}
+use Rattle.qsm.specs.model.Serial.{peekSerial, putSerial, serialUnmodelled, serialGuarded, serialRead}
+use Rattle.qsm.specs.model.Queue.{peekQueue, putQueue, queueUnmodelled, queueGuarded, queueRead}
+use Rattle.qsm.specs.model.Word.{peek, put, unmodelled, guarded}
+use Rattle.qsm.specs.model.Access.{fetch, fetched, store, stored}
+use Rattle.qsm.specs.model.Decision.{admitted, decideRead, storedBy, decideStored}
+use Rattle.qsm.specs.model.Request.{request}
+use Rattle.qsm.specs.model.Event.{answerOf, clockModule, clocks, afterRead, readValue, refused, holds, reads, writes, does, step}
+use Rattle.qsm.specs.claims.Witness.{Met}
 
 pub met : Met
 unfolding step does reads writes holds refused answerOf request clocks clockModule afterRead readValue fetched fetch iterate store stored storedBy decideStored decideRead admitted inMap isRestricted decode peek put unmodelled guarded putOwn ownUnmodelled peekSerial putSerial serialUnmodelled serialGuarded serialRead peekQueue putQueue queueUnmodelled queueGuarded queueRead resetModule reset writeSpcr1 wroteSccr1 sccr1Guarded has fall markSeen clocked clock queueClock

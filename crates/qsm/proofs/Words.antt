@@ -7,13 +7,13 @@ use native.Mathlib.Omega.{arith}
 use lib.Dec.{eqb, ltb}
 use borrow.Author.Tests.{ltb-true, ltb-false, lt-ltb}
 use Rattle.steps.specs.Iterate.{iterate}
-use Rattle.qsm.specs.Map.{decode, mapped}
-use Rattle.qsm.specs.Lanes as lanes
-use Rattle.qsm.specs.Word.{peek, put, unmodelled, guarded}
-use Rattle.qsm.specs.Access.{fetch, fetched, store, stored}
-use Rattle.qsm.specs.Decision.{shaped, fits, permits, gate, tested, admitted, decideRead, storedBy, decideStored}
-use Rattle.qsm.specs.Event.{done, answerOf, readValue, refused, writeDecided, reads, writes, does, step}
-use Rattle.qsm.specs.Registers.{reading, writing}
+use Rattle.qsm.specs.model.Map.{decode, mapped}
+use Rattle.qsm.specs.model.Lanes as lanes
+use Rattle.qsm.specs.model.Word.{peek, put, unmodelled, guarded}
+use Rattle.qsm.specs.model.Access.{fetch, fetched, store, stored}
+use Rattle.qsm.specs.model.Decision.{shaped, fits, permits, gate, tested, admitted, decideRead, storedBy, decideStored}
+use Rattle.qsm.specs.model.Event.{done, answerOf, readValue, refused, writeDecided, reads, writes, does, step}
+use Rattle.qsm.specs.claims.Registers.{reading, writing}
 use Rattle.qsm.specs.declared.state.Module.{Module}
 use Rattle.qsm.specs.declared.map.Place.{Place}
 use Rattle.qsm.specs.declared.access.Store.{Store}

@@ -1,7 +1,7 @@
 // The words of an access, one after the other: what a read gives and leaves, what a write leaves and is refused for.
 ghost use mathlib.Core.Path.{_≡_};
 ghost use Rattle.steps.specs.Iterate.{iterate};
-ghost use Rattle.qsm.specs.Access.{next, fetch, fetched, store, stored};
+ghost use Rattle.qsm.specs.model.Access.{next, fetch, fetched, store, stored};
 use crate::map::decode;
 use crate::state::Module;
 

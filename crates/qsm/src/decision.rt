@@ -1,6 +1,6 @@
 // What becomes of an access: refusals 1 and 2, privilege, refusals 3 and 4, in this order.
 ghost use mathlib.Core.Path.{_≡_};
-ghost use Rattle.qsm.specs.Decision.{refusalOf, shaped, fits, gate, verdict, permits, tested, barred, admitted, decideRead, decideStored};
+ghost use Rattle.qsm.specs.model.Decision.{refusalOf, shaped, fits, gate, verdict, permits, tested, barred, admitted, decideRead, decideStored};
 use crate::access::Store;
 use crate::lanes::in_map;
 use crate::lanes::is_restricted;

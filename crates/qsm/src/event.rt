@@ -1,12 +1,12 @@
 // Events, answers and the step: reset, hold, read and write.
 ghost use mathlib.Core.Path.{_≡_};
 ghost use Prim.Native.Nat.{_+_, _≤_};
-ghost use Rattle.sci.specs.Serial as serial;
-ghost use Rattle.qspi.specs.Outputs as queue;
-ghost use Rattle.qsm.specs.Pins.{mask, levels};
-ghost use Rattle.qsm.specs.Request.{request};
-ghost use Rattle.qsm.specs.Decision.{storedBy};
-ghost use Rattle.qsm.specs.Event.{answerOf, done, refused, answered, clockLimit, passes, clocks, held, afterRead, readValue, readDecided, writeDecided, resets, holds, reads, writes, accesses, does, step};
+ghost use Rattle.sci.specs.model.Serial as serial;
+ghost use Rattle.qspi.specs.model.Outputs as queue;
+ghost use Rattle.qsm.specs.model.Pins.{mask, levels};
+ghost use Rattle.qsm.specs.model.Request.{request};
+ghost use Rattle.qsm.specs.model.Decision.{storedBy};
+ghost use Rattle.qsm.specs.model.Event.{answerOf, done, refused, answered, clockLimit, passes, clocks, held, afterRead, readValue, readDecided, writeDecided, resets, holds, reads, writes, accesses, does, step};
 use crate::access::Store;
 use crate::decision::Decision;
 use crate::decision::permits;

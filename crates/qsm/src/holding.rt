@@ -2,11 +2,11 @@
 ghost use mathlib.Core.Path.{_≡_};
 ghost use mathlib.Core.Bool.{true};
 ghost use Rattle.steps.specs.Iterate.{iterate};
-ghost use Rattle.sci.specs.Serial.{clocked};
-ghost use Rattle.sci.specs.Quiet.{withCount};
-ghost use Rattle.qspi.specs.Queue.{clock};
-ghost use Rattle.qspi.specs.Parts.{withEntry};
-ghost use Rattle.qsm.specs.Holding.{heldOf, entryHeld};
+ghost use Rattle.sci.specs.model.Serial.{clocked};
+ghost use Rattle.sci.specs.quick.Quiet.{withCount};
+ghost use Rattle.qspi.specs.model.Queue.{clock};
+ghost use Rattle.qspi.specs.model.Parts.{withEntry};
+ghost use Rattle.qsm.specs.quick.Holding.{heldOf, entryHeld};
 use qspi::Pins;
 use qspi::Qspi;
 use qspi::entry::Entry;

@@ -1,6 +1,6 @@
 // What an access touches: byte lanes of one word, or both lanes of two words in address order.
 ghost use mathlib.Core.Path.{_≡_};
-ghost use Rattle.qsm.specs.Lanes.{halves, upperLane, lowerLane, inMap, isRestricted, touches, lane, lined};
+ghost use Rattle.qsm.specs.model.Lanes.{halves, upperLane, lowerLane, inMap, isRestricted, touches, lane, lined};
 use crate::map::decode;
 use crate::map::mapped;
 use crate::map::restricted;

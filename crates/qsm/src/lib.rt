@@ -1,12 +1,12 @@
 // The module: the register map, refusals 1 to 4 and privilege, pins and requests, and the step from one event to the next. It uses the
 // two halves by their contracts alone.
 pub mod access;
+mod claims;
 pub mod decision;
 pub mod event;
 mod holding;
 mod holds;
 pub mod lanes;
-mod laws;
 pub mod map;
 pub mod own;
 pub mod pins;

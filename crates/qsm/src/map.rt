@@ -1,6 +1,6 @@
 // The register map: an offset decoded into a word of the module's own registers, of the serial half, of the queue half, or a hole.
 ghost use mathlib.Core.Path.{_≡_};
-ghost use Rattle.qsm.specs.Map.{decode, mapped, ownRestricted, restricted};
+ghost use Rattle.qsm.specs.model.Map.{decode, mapped, ownRestricted, restricted};
 
 pub enum OwnWord {
     Qsmcr,

@@ -1,6 +1,6 @@
 // The module's own words: QSMCR, QILR and QIVR, PORTQS, PQSPAR and DDRQS.
 ghost use mathlib.Core.Path.{_≡_};
-ghost use Rattle.qsm.specs.Own.{peekOwn, putQsmcr, putInterrupts, putPortqs, putDirections, putOwn, ownUnmodelled};
+ghost use Rattle.qsm.specs.model.Own.{peekOwn, putQsmcr, putInterrupts, putPortqs, putDirections, putOwn, ownUnmodelled};
 use crate::map::OwnWord;
 use crate::pins::outputs_of;
 use crate::state::Module;

@@ -1,7 +1,7 @@
 // The eight pins as sets, bit k for pin k: MISO, MOSI, SCK, PCS0 to PCS3, TXD; which are driven, and at what level.
 ghost use mathlib.Core.Path.{_≡_};
 ghost use mathlib.Core.Bool.{cond};
-ghost use Rattle.qsm.specs.Pins.{outputs, without, select, mask, owned, ownLevels, levels, portqsRead};
+ghost use Rattle.qsm.specs.model.Pins.{outputs, without, select, mask, owned, ownLevels, levels, portqsRead};
 use crate::state::Module;
 
 // What the pins depend on: what the two halves put out, and the pin registers.

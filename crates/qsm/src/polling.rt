@@ -1,16 +1,16 @@
 // A read in straight code, for hosts that poll: its words without a loop, its marks in the two status registers alone.
 ghost use mathlib.Core.Path.{_≡_};
 ghost use mathlib.Core.Bool.{cond};
-ghost use Rattle.sci.specs.Flags.{receiveFlags};
-ghost use Rattle.sci.specs.Status.{markSeen, fallSeen};
-ghost use Rattle.qspi.specs.Spsr.{flagsSeen};
-ghost use Rattle.qsm.specs.State.{withSci, withQspi};
-ghost use Rattle.qsm.specs.Word.{peek};
-ghost use Rattle.qsm.specs.Lanes.{halves};
-ghost use Rattle.qsm.specs.Access.{fetched};
-ghost use Rattle.qsm.specs.Serial.{serialRead};
-ghost use Rattle.qsm.specs.Queue.{queueRead};
-ghost use Rattle.qsm.specs.Event.{readValue};
+ghost use Rattle.sci.specs.model.Flags.{receiveFlags};
+ghost use Rattle.sci.specs.model.Status.{markSeen, fallSeen};
+ghost use Rattle.qspi.specs.model.Spsr.{flagsSeen};
+ghost use Rattle.qsm.specs.model.State.{withSci, withQspi};
+ghost use Rattle.qsm.specs.model.Word.{peek};
+ghost use Rattle.qsm.specs.model.Lanes.{halves};
+ghost use Rattle.qsm.specs.model.Access.{fetched};
+ghost use Rattle.qsm.specs.model.Serial.{serialRead};
+ghost use Rattle.qsm.specs.model.Queue.{queueRead};
+ghost use Rattle.qsm.specs.model.Event.{readValue};
 use crate::access::next;
 use crate::lanes::lane;
 use crate::lanes::upper_lane;

@@ -1,6 +1,6 @@
 // The words of the queue half: read, what a read leaves, write, and what a write is refused for.
 ghost use mathlib.Core.Path.{_≡_};
-ghost use Rattle.qsm.specs.Queue.{peekQueue, queueRead, putQueue, queueUnmodelled, queueGuarded};
+ghost use Rattle.qsm.specs.model.Queue.{peekQueue, queueRead, putQueue, queueUnmodelled, queueGuarded};
 use crate::map::QueueWord;
 use qspi::Qspi;
 

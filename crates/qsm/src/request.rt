@@ -1,6 +1,6 @@
 // The interrupt request: its level and vector.
 ghost use mathlib.Core.Path.{_≡_};
-ghost use Rattle.qsm.specs.Request.{vectorOf, winner, request};
+ghost use Rattle.qsm.specs.model.Request.{vectorOf, winner, request};
 ghost use mathlib.Core.Bool.{cond};
 
 fn asked(asks: bool, level: u8) -> u8

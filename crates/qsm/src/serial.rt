@@ -1,8 +1,8 @@
 // The words of the serial half: read, what a read leaves, write, and what a write is refused for.
 ghost use mathlib.Core.Path.{_≡_};
-ghost use Rattle.sci.specs.Serial.{statusRead, dataRead};
+ghost use Rattle.sci.specs.model.Serial.{statusRead, dataRead};
 ghost use mathlib.Core.Bool.{cond};
-ghost use Rattle.qsm.specs.Serial.{peekSerial, serialRead, putSerial, serialUnmodelled, serialGuarded};
+ghost use Rattle.qsm.specs.model.Serial.{peekSerial, serialRead, putSerial, serialUnmodelled, serialGuarded};
 use crate::map::SerialWord;
 use sci::serial::Sci;
 

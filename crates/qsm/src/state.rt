@@ -1,6 +1,6 @@
 // The state of the module, and its reset.
 ghost use mathlib.Core.Path.{_≡_};
-ghost use Rattle.qsm.specs.State.{resetModule};
+ghost use Rattle.qsm.specs.model.State.{resetModule};
 use qspi::Qspi;
 use sci::serial::Sci;
 

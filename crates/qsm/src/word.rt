@@ -1,7 +1,7 @@
 // A word of the map, by the part of the module that has it.
 ghost use mathlib.Core.Path.{_≡_};
-ghost use Rattle.qsm.specs.State.{withSci, withQspi};
-ghost use Rattle.qsm.specs.Word.{peek, put, unmodelled, guarded};
+ghost use Rattle.qsm.specs.model.State.{withSci, withQspi};
+ghost use Rattle.qsm.specs.model.Word.{peek, put, unmodelled, guarded};
 use crate::map::Place;
 use crate::own::own_unmodelled;
 use crate::queue::peek_queue;

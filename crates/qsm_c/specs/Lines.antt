@@ -2,11 +2,11 @@
 use mathlib.Core.Path.{_≡_}
 use mathlib.Core.List.{List}
 use Prim.Native.Nat.{ℕ}
-use Rattle.gatherer.specs.Call.{handedIn}
-use Rattle.gatherer.specs.declared.Lines.{Lines}
-use Rattle.gatherer.specs.declared.Turned.{Turned}
-use Rattle.gatherer.specs.declared.line.Outcome.{Outcome}
-use Rattle.gatherer.specs.declared.line.Outcome.the-variants.{Nothing, Handed, Dropped, Stopped, Ended, Refused}
+use Rattle.tool_lines.specs.Call.{handedIn}
+use Rattle.tool_lines.specs.declared.Lines.{Lines}
+use Rattle.tool_lines.specs.declared.Turned.{Turned}
+use Rattle.tool_lines.specs.declared.line.Outcome.{Outcome}
+use Rattle.tool_lines.specs.declared.line.Outcome.the-variants.{Nothing, Handed, Dropped, Stopped, Ended, Refused}
 use Rattle.qsm_c.specs.declared.lines.LinesTold.{LinesTold}
 
 -- The end of the trace is 0, a line 1, a drop 2, a stop 3, a refusal of the call 4; no call ends with nothing to tell, 5.

@@ -1,9 +1,9 @@
 // The index of a trace, for hosts in C: marks in the host's numbers, two a mark.
 ghost use mathlib.Core.Path.{_≡_};
-ghost use Rattle.marks.specs.Marks.{built, extended};
-ghost use Rattle.marks.specs.Find.{lookedUp};
-use marks::find::Found;
-use marks::index::Indexed;
+ghost use Rattle.tool_index.specs.Marks.{built, extended};
+ghost use Rattle.tool_index.specs.Find.{lookedUp};
+use tool_index::find::Found;
+use tool_index::index::Indexed;
 
 // The marks of a trace, built afresh.
 // Ruled out: a number changed by a refusal; a mark for a record that is cut.
@@ -11,7 +11,7 @@ use marks::index::Indexed;
 pub extern "C" fn qsm_index_build(trace: &[u8], lent: &mut [u64]) -> Indexed
     ensures { λ r. ⌜ (now (lent .exit) ≡ built (now (trace .entry)) (now (lent .entry)) .list) × (r ≡ built (now (trace .entry)) (now (lent .entry)) .given) ⌝ }
 {
-    marks::index::build(trace, lent)
+    tool_index::index::build(trace, lent)
 }
 
 // The marks of a trace that has grown, of which so many are there.
@@ -20,7 +20,7 @@ pub extern "C" fn qsm_index_build(trace: &[u8], lent: &mut [u64]) -> Indexed
 pub extern "C" fn qsm_index_extend(trace: &[u8], lent: &mut [u64], count: usize) -> Indexed
     ensures { λ r. ⌜ (now (lent .exit) ≡ extended (now (trace .entry)) (now (lent .entry)) count .list) × (r ≡ extended (now (trace .entry)) (now (lent .entry)) count .given) ⌝ }
 {
-    marks::index::extend(trace, lent, count)
+    tool_index::index::extend(trace, lent, count)
 }
 
 // Where a record starts, by so many marks.
@@ -34,5 +34,5 @@ pub extern "C" fn qsm_index_find<'a>(
 ) -> Found
     ensures { λ r. ⌜ r ≡ lookedUp (now (trace .entry)) (now (lent .entry)) count number ⌝ }
 {
-    marks::find::find(trace, lent, count, number)
+    tool_index::find::find(trace, lent, count, number)
 }

@@ -1,8 +1,8 @@
 // The judging of a vendor's log, for hosts in C.
 ghost use mathlib.Core.Path.{_≡_};
-ghost use Rattle.judging.specs.Judge.{judged};
-ghost use Rattle.judging.specs.Numbers.{inNumbers};
-use judging::numbers::Judgement;
+ghost use Rattle.tool_judge.specs.Judge.{judged};
+ghost use Rattle.tool_judge.specs.Numbers.{inNumbers};
+use tool_judge::numbers::Judgement;
 
 // A log of a trace, judged from a module after reset.
 // Ruled out: the trace and the log exchanged; a log that is a beginning of the right one accepted.
@@ -10,5 +10,5 @@ use judging::numbers::Judgement;
 pub extern "C" fn qsm_judge<'a>(trace: &'a [u8], log: &'a [u8]) -> Judgement
     ensures { λ r. ⌜ r ≡ inNumbers (judged (now (trace .entry)) (now (log .entry))) ⌝ }
 {
-    judging::numbers::judge_numbers(trace, log)
+    tool_judge::numbers::judge_numbers(trace, log)
 }

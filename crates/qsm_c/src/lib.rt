@@ -2,15 +2,15 @@
 // editions, plans of the queue, and (`shared`) a module that two drivers share. `include/qsm.h` declares it.
 ghost use mathlib.Core.Path.{_≡_};
 ghost use lib.ListN.{length};
-ghost use Rattle.qsm.specs.State.{resetModule};
+ghost use Rattle.qsm.specs.model.State.{resetModule};
 ghost use Rattle.qsm.specs.declared.event.Event.the-variants.{Reset, Hold};
 ghost use Rattle.host.specs.Host.{Applied, readEvent, writeEvent};
 ghost use Rattle.trace.specs.Play.{play};
-ghost use Rattle.comparison.specs.Compare.{comparedLogs, inNumbers};
-ghost use Rattle.planner.specs.Check.{accepts};
-ghost use Rattle.planner.specs.Quickest.{planned};
-ghost use Rattle.planner.specs.Writes.{writeNo, writesOf};
-ghost use Rattle.settings.specs.Editions.{add, withdraw, get, newest, Changes};
+ghost use Rattle.tool_compare.specs.Compare.{comparedLogs, inNumbers};
+ghost use Rattle.tool_plan.specs.Check.{accepts};
+ghost use Rattle.tool_plan.specs.Quickest.{planned};
+ghost use Rattle.tool_plan.specs.Writes.{writeNo, writesOf};
+ghost use Rattle.tool_editions.specs.Editions.{add, withdraw, get, newest, Changes};
 ghost use Rattle.qsm_c.specs.Play.{Plays};
 ghost use Rattle.qsm_c.specs.Version.{version};
 
@@ -21,16 +21,16 @@ mod lines;
 mod shared;
 mod until;
 
-use comparison::Compared;
-use planner::Plan;
-use planner::Planned;
-use planner::SetPoints;
-use planner::load::HostWrite;
 use qsm::event::Answer;
 use qsm::state::Module;
-use settings::Changed;
-use settings::Given;
-use settings::records::Edition;
+use tool_compare::Compared;
+use tool_editions::Changed;
+use tool_editions::Given;
+use tool_editions::records::Edition;
+use tool_plan::Plan;
+use tool_plan::Planned;
+use tool_plan::SetPoints;
+use tool_plan::load::HostWrite;
 
 // The module after a trace, the bytes read and written, and the refusal that stopped it, or 0.
 #[repr(C)]
@@ -145,7 +145,7 @@ pub extern "C" fn qsm_play(m: Module, trace: &[u8], log: &mut [u8]) -> Played
 pub extern "C" fn qsm_compare<'a>(a: &'a [u8], b: &'a [u8], list: &mut [u64]) -> Compared
     ensures { λ r. ⌜ (now (list .exit) ≡ comparedLogs (now (a .entry)) (now (b .entry)) (now (list .entry)) .list) × (r ≡ inNumbers (comparedLogs (now (a .entry)) (now (b .entry)) (now (list .entry)))) ⌝ }
 {
-    comparison::compare_numbers(a, b, list)
+    tool_compare::compare_numbers(a, b, list)
 }
 
 // An edition added to a buffer.
@@ -154,7 +154,7 @@ pub extern "C" fn qsm_compare<'a>(a: &'a [u8], b: &'a [u8], list: &mut [u64]) ->
 pub extern "C" fn qsm_editions_add(buffer: &mut [u8], used: usize, edition: Edition) -> Changed
     ensures { λ r. ⌜ Changes (add (now (buffer .entry)) used edition) r (now (buffer .exit)) ⌝ }
 {
-    settings::add(buffer, used, edition)
+    tool_editions::add(buffer, used, edition)
 }
 
 // An edition withdrawn.
@@ -163,7 +163,7 @@ pub extern "C" fn qsm_editions_add(buffer: &mut [u8], used: usize, edition: Edit
 pub extern "C" fn qsm_editions_withdraw(buffer: &mut [u8], used: usize, number: u16) -> Changed
     ensures { λ r. ⌜ Changes (withdraw (now (buffer .entry)) used number) r (now (buffer .exit)) ⌝ }
 {
-    settings::withdraw(buffer, used, number)
+    tool_editions::withdraw(buffer, used, number)
 }
 
 // The edition of a number.
@@ -172,7 +172,7 @@ pub extern "C" fn qsm_editions_withdraw(buffer: &mut [u8], used: usize, number: 
 pub extern "C" fn qsm_editions_get(buffer: &[u8], used: usize, number: u16) -> Given
     ensures { λ r. ⌜ r ≡ get (now (buffer .entry)) used number ⌝ }
 {
-    settings::get(buffer, used, number)
+    tool_editions::get(buffer, used, number)
 }
 
 // The newest edition.
@@ -181,7 +181,7 @@ pub extern "C" fn qsm_editions_get(buffer: &[u8], used: usize, number: u16) -> G
 pub extern "C" fn qsm_editions_newest(buffer: &[u8], used: usize) -> Given
     ensures { λ r. ⌜ r ≡ newest (now (buffer .entry)) used ⌝ }
 {
-    settings::newest(buffer, used)
+    tool_editions::newest(buffer, used)
 }
 
 // The quickest plan for set-points in a window, or refusal 11.
@@ -190,7 +190,7 @@ pub extern "C" fn qsm_editions_newest(buffer: &[u8], used: usize) -> Given
 pub extern "C" fn qsm_plan(points: SetPoints, window: u64) -> Planned
     ensures { λ r. ⌜ r ≡ planned points window ⌝ }
 {
-    planner::quickest::plan(points, window)
+    tool_plan::quickest::plan(points, window)
 }
 
 // Whether a plan is one for set-points and a window, whoever made it.
@@ -199,7 +199,7 @@ pub extern "C" fn qsm_plan(points: SetPoints, window: u64) -> Planned
 pub extern "C" fn qsm_plan_accepts(points: SetPoints, window: u64, plan: Plan) -> bool
     ensures { λ r. ⌜ r ≡ accepts points window plan ⌝ }
 {
-    planner::accepts(points, window, plan)
+    tool_plan::accepts(points, window, plan)
 }
 
 // How many writes load a plan.
@@ -208,7 +208,7 @@ pub extern "C" fn qsm_plan_accepts(points: SetPoints, window: u64, plan: Plan) -
 pub extern "C" fn qsm_plan_writes(plan: Plan) -> u16
     ensures { λ r. ⌜ r ≡ writesOf plan ⌝ }
 {
-    planner::load::writes(plan)
+    tool_plan::load::writes(plan)
 }
 
 // Write number i of them, in order, SPCR1 last; width 0 past it.
@@ -217,5 +217,5 @@ pub extern "C" fn qsm_plan_writes(plan: Plan) -> u16
 pub extern "C" fn qsm_plan_write(plan: Plan, i: u16) -> HostWrite
     ensures { λ r. ⌜ r ≡ writeNo plan i ⌝ }
 {
-    planner::load::write(plan, i)
+    tool_plan::load::write(plan, i)
 }

@@ -1,10 +1,10 @@
 // Lines gathered from a replayed trace: the state by value, and what a call tells in numbers.
 ghost use mathlib.Core.Path.{_≡_};
 ghost use lib.ListN.{length};
-ghost use Rattle.gatherer.specs.Call.{started, called};
+ghost use Rattle.tool_lines.specs.Call.{started, called};
 ghost use Rattle.qsm_c.specs.Lines.{inNumbers, Tells};
-use gatherer::Lines;
-use gatherer::line::Outcome;
+use tool_lines::Lines;
+use tool_lines::line::Outcome;
 
 // The state after a call, and what it tells: the end of the trace, a line, a drop, a stop, or a refusal.
 #[repr(C)]
@@ -90,7 +90,7 @@ fn in_numbers(state: Lines, o: Outcome) -> LinesTold
 pub extern "C" fn qsm_lines_new() -> Lines
     ensures { λ r. ⌜ r ≡ started ⌝ }
 {
-    gatherer::start()
+    tool_lines::start()
 }
 
 // On to the next line, drop, stop or end.
@@ -104,7 +104,7 @@ pub extern "C" fn qsm_lines_next(
 ) -> LinesTold
     ensures { λ r. ⌜ Tells (called period (now (trace .entry)) (length (now (line .entry))) state) (now (line .entry)) r (now (line .exit)) ⌝ }
 {
-    let t = gatherer::go_on(state, trace, period, line);
+    let t = tool_lines::go_on(state, trace, period, line);
     let after = t.state;
     let o = t.outcome;
     in_numbers(after, o)

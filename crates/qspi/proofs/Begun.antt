@@ -1,7 +1,7 @@
 -- Clock 1 takes the entry up first and is then played like any other clock of it. Assumes nothing.
 use mathlib.Core.Path.{_≡_, refl}
 use mathlib.Core.Bool.{Bool, true, false, cond, not, _&&_}
-use Rattle.qspi.specs.Queue.{playClock, delayClock, startClock, clockAt, ready, begun}
+use Rattle.qspi.specs.model.Queue.{playClock, delayClock, startClock, clockAt, ready, begun}
 use Rattle.qspi.specs.declared.Qspi.{Qspi}
 
 abbrev starts : Qspi → Bool

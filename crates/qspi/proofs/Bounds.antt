@@ -4,7 +4,7 @@ use Prim.Native.Nat.{ℕ, zero, suc, _≤_, _*_}
 use native.Mathlib.Omega.{arith}
 use lib.Dec.{eqb}
 use borrow.Author.Tests.{ne-eqb}
-use Rattle.qspi.specs.Fields.{bitse, bitsField, spbr, dsck, dsckl, dt, dtl, zeroMeans, bitsOf, preDelay, delayAfter}
+use Rattle.qspi.specs.model.Fields.{bitse, bitsField, spbr, dsck, dsckl, dt, dtl, zeroMeans, bitsOf, preDelay, delayAfter}
 
 cond-le : (b : Bool) (x y m : ℕ) → x ≤ m → y ≤ m → cond b x y ≤ m
 cond-le true x y m h k = h

@@ -6,15 +6,15 @@ use native.Mathlib.Omega.{arith}
 use lib.Dec.{leb}
 use borrow.Author.Tests.{leb-true, leb-false}
 use Rattle.steps.specs.Bits.{merge, upperByte}
-use Rattle.qspi.specs.Fields.{spe, newqp, bitsOf}
-use Rattle.qspi.specs.Parts.{withRegisters, withNext, withEntry}
-use Rattle.qspi.specs.Registers.{withSpcr2, spcr2Bits, writeSpcr2}
-use Rattle.qspi.specs.Entry.{edgeFallen}
-use Rattle.qspi.specs.Queue.{clock, queueClock, clockIf, clockAt, startClock, delayClock, delayed, playClock, counted, edge, judged, completed, isLast, wraps, followed, stored, begun, entryAt, faulted, faultNow, misoOf, ready}
-use Rattle.qspi.specs.Outputs.{asks}
-use Rattle.qspi.specs.Run.{run, preIn, spbrIn, edgeClock, during}
-use Rattle.qspi.specs.Laws.{Starting}
-use Rattle.qspi.specs.Clauses.{NoClock1, NewqpMoves, UpperAlone, Taken, Clock1Takes, Alike, Buffered}
+use Rattle.qspi.specs.model.Fields.{spe, newqp, bitsOf}
+use Rattle.qspi.specs.model.Parts.{withRegisters, withNext, withEntry}
+use Rattle.qspi.specs.model.Registers.{withSpcr2, spcr2Bits, writeSpcr2}
+use Rattle.qspi.specs.model.Entry.{edgeFallen}
+use Rattle.qspi.specs.model.Queue.{clock, queueClock, clockIf, clockAt, startClock, delayClock, delayed, playClock, counted, edge, judged, completed, isLast, wraps, followed, stored, begun, entryAt, faulted, faultNow, misoOf, ready}
+use Rattle.qspi.specs.model.Outputs.{asks}
+use Rattle.qspi.specs.claims.Run.{run, preIn, spbrIn, edgeClock, during}
+use Rattle.qspi.specs.claims.Laws.{Starting}
+use Rattle.qspi.specs.claims.Clauses.{NoClock1, NewqpMoves, UpperAlone, Taken, Clock1Takes, Alike, Buffered}
 use Rattle.qspi.specs.declared.Qspi.{Qspi}
 use Rattle.qspi.specs.declared.Pins.{Pins}
 use Rattle.qspi.proofs.Bounds.{bits-pos}

@@ -4,12 +4,12 @@ use mathlib.Core.Bool.{Bool, true, false}
 use Prim.Native.Nat.{_*_, _+_, _%_, _≤_}
 use lib.Dec.{leb}
 use borrow.Author.Tests.{leb-true}
-use Rattle.qspi.specs.Fields.{spe, halt, bitsOf}
-use Rattle.qspi.specs.Parts.{withSpsr, withEntry}
-use Rattle.qspi.specs.Spsr.{raised, haltaIf}
-use Rattle.qspi.specs.Entry.{edgeFallen}
-use Rattle.qspi.specs.Queue.{clock, delayClock, delayed, playClock, counted, edge, judged, completed, isLast, wraps, followed, stored, begun, faulted, faultNow, misoOf, ready}
-use Rattle.qspi.specs.Laws.{Starting}
+use Rattle.qspi.specs.model.Fields.{spe, halt, bitsOf}
+use Rattle.qspi.specs.model.Parts.{withSpsr, withEntry}
+use Rattle.qspi.specs.model.Spsr.{raised, haltaIf}
+use Rattle.qspi.specs.model.Entry.{edgeFallen}
+use Rattle.qspi.specs.model.Queue.{clock, delayClock, delayed, playClock, counted, edge, judged, completed, isLast, wraps, followed, stored, begun, faulted, faultNow, misoOf, ready}
+use Rattle.qspi.specs.claims.Laws.{Starting}
 use Rattle.qspi.specs.declared.Qspi.{Qspi}
 use Rattle.qspi.specs.declared.Pins.{Pins}
 use Rattle.qspi.specs.declared.entry.Entry.{Entry}

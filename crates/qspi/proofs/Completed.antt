@@ -1,7 +1,7 @@
 -- What the end of an entry keeps. Assumes nothing.
 use mathlib.Core.Path.{_≡_, refl}
 use mathlib.Core.Bool.{Bool, true, false, not, _||_, false≢true, true≢false}
-use Rattle.qspi.specs.Queue.{isLast, wraps, stored, wrapped, finished, advanced, followed, completed}
+use Rattle.qspi.specs.model.Queue.{isLast, wraps, stored, wrapped, finished, advanced, followed, completed}
 use Rattle.qspi.specs.declared.Qspi.{Qspi}
 
 followed-keeps : {A : Type 0} (f : Qspi → A) (last wrap : Bool) (r : Qspi) →

@@ -9,7 +9,7 @@ use lib.Dec.{eqb}
 use lib.ListN.{length, getD, take}
 use lib.Seq.{take-all, take-suc}
 use borrow.Author.Tests.{eqb-true, eqb-false}
-use Rattle.qspi.specs.Same.{Decides}
+use Rattle.qspi.specs.quick.Same.{Decides}
 use Rattle.qspi.specs.declared.Qspi.{Qspi}
 use Rattle.qspi.specs.declared.entry.Entry.{Entry}
 use Rattle.qspi.specs.declared.queue.Next.{Next}

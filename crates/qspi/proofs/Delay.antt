@@ -7,10 +7,10 @@ use native.Mathlib.Omega.{arith}
 use lib.Dec.{eqb, leb}
 use borrow.Author.Tests.{lt-leb, ne-eqb, eqb-false}
 use Rattle.steps.specs.Bits.{bit}
-use Rattle.qspi.specs.Fields.{spbr, spe, wren, endqp, halt, cont}
-use Rattle.qspi.specs.Queue.{clock, queueClock, startClock, delayClock, entryAt, begun, selected, stored, finished, wrapped, advanced}
-use Rattle.qspi.specs.Run.{run, bitsIn, spbrIn, delayIn, lastClock, lengthIn, during, waiting, waited, stopped}
-use Rattle.qspi.specs.Laws.{Starting, Calm, Halted, goesOn, DelayRuns, NextStarts, HaltComes, HaltHolds, HaltReleases, QueueEnds}
+use Rattle.qspi.specs.model.Fields.{spbr, spe, wren, endqp, halt, cont}
+use Rattle.qspi.specs.model.Queue.{clock, queueClock, startClock, delayClock, entryAt, begun, selected, stored, finished, wrapped, advanced}
+use Rattle.qspi.specs.claims.Run.{run, bitsIn, spbrIn, delayIn, lastClock, lengthIn, during, waiting, waited, stopped}
+use Rattle.qspi.specs.claims.Laws.{Starting, Calm, Halted, goesOn, DelayRuns, NextStarts, HaltComes, HaltHolds, HaltReleases, QueueEnds}
 use Rattle.qspi.specs.declared.Qspi.{Qspi}
 use Rattle.qspi.specs.declared.Pins.{Pins}
 use Rattle.qspi.proofs.Bounds.{delay-pos}

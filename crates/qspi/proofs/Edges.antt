@@ -7,10 +7,10 @@ use native.Mathlib.Omega.{arith}
 use lib.Dec.{leb}
 use Rattle.steps.specs.Iterate.{iterate}
 use borrow.Author.Tests.{lt-leb, le-leb, leb-true}
-use Rattle.qspi.specs.Fields.{mstr, spe}
-use Rattle.qspi.specs.Queue.{clock, queueClock, playClock, startClock, begun, edge, misoOf, selected, faultNow, judged, completed}
-use Rattle.qspi.specs.Run.{run, bitsIn, preIn, spbrIn, edgeClock, gap, lastClock, during, mosiBy, collectedBy}
-use Rattle.qspi.specs.Laws.{Starting, Calm, HoldRuns, EdgeFormula, EdgesFall, LastEdge}
+use Rattle.qspi.specs.model.Fields.{mstr, spe}
+use Rattle.qspi.specs.model.Queue.{clock, queueClock, playClock, startClock, begun, edge, misoOf, selected, faultNow, judged, completed}
+use Rattle.qspi.specs.claims.Run.{run, bitsIn, preIn, spbrIn, edgeClock, gap, lastClock, during, mosiBy, collectedBy}
+use Rattle.qspi.specs.claims.Laws.{Starting, Calm, HoldRuns, EdgeFormula, EdgesFall, LastEdge}
 use Rattle.qspi.specs.declared.Qspi.{Qspi}
 use Rattle.qspi.specs.declared.Pins.{Pins}
 use Rattle.qspi.proofs.Bounds.{bits-small, bits-pos, pre-pos}

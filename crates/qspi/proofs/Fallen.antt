@@ -7,12 +7,12 @@ use lib.Dec.{leb, ltb}
 use borrow.Author.Tests.{eq-eqb, eqb-true, eqb-false, le-leb, leb-true, lt-ltb, le-ltb, ltb-true, ltb-false}
 use Rattle.steps.specs.Iterate.{iterate}
 use Rattle.steps.proofs.Iterate.{iterate-add}
-use Rattle.qspi.specs.Fields.{cpha, spbr, bitsOf}
-use Rattle.qspi.specs.Entry.{changes, mosiAfter, pushed, collectedAfter, withBits, edgeFallen}
-use Rattle.qspi.specs.Falls.{readsBy, mosiSince, collectedSince, edgesFallen}
-use Rattle.qspi.specs.Parts.{withEntry}
-use Rattle.qspi.specs.Queue.{clock, misoOf}
-use Rattle.qspi.specs.Quiet.{plays, atLeastOne, untilEdge, edgeWithin}
+use Rattle.qspi.specs.model.Fields.{cpha, spbr, bitsOf}
+use Rattle.qspi.specs.model.Entry.{changes, mosiAfter, pushed, collectedAfter, withBits, edgeFallen}
+use Rattle.qspi.specs.quick.Falls.{readsBy, mosiSince, collectedSince, edgesFallen}
+use Rattle.qspi.specs.model.Parts.{withEntry}
+use Rattle.qspi.specs.model.Queue.{clock, misoOf}
+use Rattle.qspi.specs.quick.Quiet.{plays, atLeastOne, untilEdge, edgeWithin}
 use Rattle.qspi.specs.declared.Qspi.{Qspi}
 use Rattle.qspi.specs.declared.Pins.{Pins}
 use Rattle.qspi.specs.declared.entry.Entry.{Entry}

@@ -6,10 +6,10 @@ use native.Mathlib.Omega.{arith}
 use lib.Dec.{eqb}
 use borrow.Author.Tests.{eq-eqb, ne-eqb, lt-leb}
 use Rattle.steps.specs.Bits.{digit}
-use Rattle.qspi.specs.Fields.{bitsField, dsckl, dtl, bitsOf, preDelay, delayAfter}
-use Rattle.qspi.specs.Queue.{clock, ready}
-use Rattle.qspi.specs.Run.{run, spbrIn}
-use Rattle.qspi.specs.FieldClauses.{Placed, Meant, NoneStarts, FieldClauses}
+use Rattle.qspi.specs.model.Fields.{bitsField, dsckl, dtl, bitsOf, preDelay, delayAfter}
+use Rattle.qspi.specs.model.Queue.{clock, ready}
+use Rattle.qspi.specs.claims.Run.{run, spbrIn}
+use Rattle.qspi.specs.claims.FieldClauses.{Placed, Meant, NoneStarts, FieldClauses}
 use Rattle.qspi.specs.declared.Qspi.{Qspi}
 use Rattle.qspi.specs.declared.Pins.{Pins}
 use Rattle.qspi.proofs.Edges.{no-fault}

@@ -5,12 +5,12 @@ use Prim.Native.Nat.{ℕ, _+_, _*_, _/_, _%_}
 use native.Mathlib.Omega.{arith}
 use borrow.Author.Tests.{eq-eqb, ne-eqb}
 use Rattle.steps.specs.Bits.{bit, digit, merge}
-use Rattle.qspi.specs.Fields.{spe, halt}
-use Rattle.qspi.specs.Spsr.{falls, raised, onlySpif, onlyModf, haltaIf}
-use Rattle.qspi.specs.Registers.{reset, withSpcr1, switched, writeSpcr1}
-use Rattle.qspi.specs.Parts.{withRegisters}
-use Rattle.qspi.specs.Queue.{clock, followed}
-use Rattle.qspi.specs.FlagLaws.{Flag, SPIF, MODF, HALTA, Act, clocked, statusSeen, spcr0Put, spcr1Put, spcr2Put, spcr3SpsrPut, receivePut, transmitPut, commandPut, member, isSet, isSeen, FlagShows, FlagFalls, FallsOnly, ReadSees, SeenOnly, SeenLasts, ResetForgets, CptqpStays}
+use Rattle.qspi.specs.model.Fields.{spe, halt}
+use Rattle.qspi.specs.model.Spsr.{falls, raised, onlySpif, onlyModf, haltaIf}
+use Rattle.qspi.specs.model.Registers.{reset, withSpcr1, switched, writeSpcr1}
+use Rattle.qspi.specs.model.Parts.{withRegisters}
+use Rattle.qspi.specs.model.Queue.{clock, followed}
+use Rattle.qspi.specs.claims.FlagLaws.{Flag, SPIF, MODF, HALTA, Act, clocked, statusSeen, spcr0Put, spcr1Put, spcr2Put, spcr3SpsrPut, receivePut, transmitPut, commandPut, member, isSet, isSeen, FlagShows, FlagFalls, FallsOnly, ReadSees, SeenOnly, SeenLasts, ResetForgets, CptqpStays}
 use Rattle.qspi.specs.declared.Qspi.{Qspi}
 use Rattle.qspi.specs.declared.Pins.{Pins}
 use Rattle.qspi.specs.declared.spsr.Flags.{Flags}

@@ -7,13 +7,13 @@ use native.Mathlib.Omega.{arith}
 use lib.Dec.{eqb}
 use borrow.Author.Tests.{ne-eqb}
 use Rattle.steps.specs.Bits.{merge}
-use Rattle.qspi.specs.Fields.{spe, cont, pcsField}
-use Rattle.qspi.specs.Registers.{withSpcr1, switched, writeSpcr1}
-use Rattle.qspi.specs.Queue.{begun, clock, faulted}
-use Rattle.qspi.specs.Outputs.{sck, pcs}
-use Rattle.qspi.specs.Parts.{withRegisters}
-use Rattle.qspi.specs.Run.{run, lastClock}
-use Rattle.qspi.specs.Laws.{SckTurns, SckRests, PcsShow, PcsDelay, Abandoned, FaultAbandons, WriteAbandons}
+use Rattle.qspi.specs.model.Fields.{spe, cont, pcsField}
+use Rattle.qspi.specs.model.Registers.{withSpcr1, switched, writeSpcr1}
+use Rattle.qspi.specs.model.Queue.{begun, clock, faulted}
+use Rattle.qspi.specs.model.Outputs.{sck, pcs}
+use Rattle.qspi.specs.model.Parts.{withRegisters}
+use Rattle.qspi.specs.claims.Run.{run, lastClock}
+use Rattle.qspi.specs.claims.Laws.{SckTurns, SckRests, PcsShow, PcsDelay, Abandoned, FaultAbandons, WriteAbandons}
 use Rattle.qspi.proofs.Completed.{completed-keeps}
 use Rattle.qspi.proofs.Edges.{edges-fall, last-edge}
 use Rattle.qspi.proofs.Delay.{field-on, delay-runs, no-spe}

@@ -4,13 +4,13 @@ use mathlib.Core.Bool.{true, false}
 use Prim.Native.Nat.{ℕ, zero, suc, _*_, _≤_}
 use native.Mathlib.Nat.{mul-le-mul}
 use native.Mathlib.Omega.{arith}
-use Rattle.qspi.specs.Fields.{spe, spbr, bitsOf, preDelay, delayAfter}
-use Rattle.qspi.specs.Registers.{reset, writeSpcr1}
-use Rattle.qspi.specs.Queue.{completed}
-use Rattle.qspi.specs.Entry.{mosiAfter, collectedAfter}
-use Rattle.qspi.specs.Run.{run, edgeAt, lengthOf, beginsAt, waited, mosiBy, collectedBy}
-use Rattle.qspi.specs.Laws.{Starting}
-use Rattle.qspi.specs.Marked.{setUp, wrapping, ComesRound, plain, around, longest, K7, K8, K9, K10}
+use Rattle.qspi.specs.model.Fields.{spe, spbr, bitsOf, preDelay, delayAfter}
+use Rattle.qspi.specs.model.Registers.{reset, writeSpcr1}
+use Rattle.qspi.specs.model.Queue.{completed}
+use Rattle.qspi.specs.model.Entry.{mosiAfter, collectedAfter}
+use Rattle.qspi.specs.claims.Run.{run, edgeAt, lengthOf, beginsAt, waited, mosiBy, collectedBy}
+use Rattle.qspi.specs.claims.Laws.{Starting}
+use Rattle.qspi.specs.claims.Marked.{setUp, wrapping, ComesRound, plain, around, longest, K7, K8, K9, K10}
 use Rattle.qspi.specs.declared.Pins.{Pins}
 use Rattle.qspi.proofs.Bounds.{bits-small, pre-small, delay-small}
 use Rattle.qspi.proofs.Edges.{hold-runs, last-edge, edges-fall}

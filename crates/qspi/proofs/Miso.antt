@@ -4,10 +4,10 @@ use mathlib.Core.Bool.{Bool, true, false}
 use Prim.Native.Nat.{ℕ, zero, suc, _+_, _*_}
 use lib.ListN.{set}
 use Rattle.steps.specs.Bits.{digit}
-use Rattle.qspi.specs.Fields.{cpha}
-use Rattle.qspi.specs.Queue.{entryAt, begun}
-use Rattle.qspi.specs.Run.{bitsIn, edgeClock, readingEdge, wordOf, bitsRead}
-use Rattle.qspi.specs.Clauses.{levelsRead, MisoRead, MisoZeros}
+use Rattle.qspi.specs.model.Fields.{cpha}
+use Rattle.qspi.specs.model.Queue.{entryAt, begun}
+use Rattle.qspi.specs.claims.Run.{bitsIn, edgeClock, readingEdge, wordOf, bitsRead}
+use Rattle.qspi.specs.claims.Clauses.{levelsRead, MisoRead, MisoZeros}
 use Rattle.qspi.proofs.Word.{word-stored}
 
 same-word : (f g : ℕ → Bool) → ((i : ℕ) → f i ≡ g i) → (n : ℕ) → wordOf f n ≡ wordOf g n

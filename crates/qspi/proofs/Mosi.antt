@@ -7,11 +7,11 @@ use native.Mathlib.Omega.{arith}
 use lib.Dec.{eqb}
 use borrow.Author.Tests.{eq-eqb, ne-eqb, eqb-true, eqb-false, lt-ltb, le-ltb}
 use Rattle.steps.specs.Bits.{bit}
-use Rattle.qspi.specs.Fields.{cpha}
-use Rattle.qspi.specs.Entry.{bitOut, mosiAfter}
-use Rattle.qspi.specs.Queue.{begun}
-use Rattle.qspi.specs.Run.{bitsIn, mosiBy, bitShown}
-use Rattle.qspi.specs.Laws.{MosiShows, MosiHolds}
+use Rattle.qspi.specs.model.Fields.{cpha}
+use Rattle.qspi.specs.model.Entry.{bitOut, mosiAfter}
+use Rattle.qspi.specs.model.Queue.{begun}
+use Rattle.qspi.specs.claims.Run.{bitsIn, mosiBy, bitShown}
+use Rattle.qspi.specs.claims.Laws.{MosiShows, MosiHolds}
 use Rattle.qspi.specs.declared.Qspi.{Qspi}
 use Rattle.qspi.proofs.Bounds.{bits-small, bits-pos}
 use Rattle.qspi.proofs.Completed.{completed-keeps}

@@ -7,10 +7,10 @@ use native.Mathlib.Omega.{arith}
 use lib.Dec.{eqb}
 use lib.ListN.{getD}
 use borrow.Author.Tests.{eq-eqb, ne-eqb}
-use Rattle.qspi.specs.Fields.{wren, wrto, endqp, newqp, halt}
-use Rattle.qspi.specs.Queue.{entryAt, begun, stored, advanced, wrapped, wrapTo}
-use Rattle.qspi.specs.Run.{run, bitsIn, spbrIn, lastClockOf, lastClock, lengthOf, lengthIn, during, waited, entryNo, commandNo, beginsAt, entriesBefore}
-use Rattle.qspi.specs.Laws.{Starting, Calm, goesOn, Before, QueueOver, EntriesRun, QueueWraps, LastOfQueue}
+use Rattle.qspi.specs.model.Fields.{wren, wrto, endqp, newqp, halt}
+use Rattle.qspi.specs.model.Queue.{entryAt, begun, stored, advanced, wrapped, wrapTo}
+use Rattle.qspi.specs.claims.Run.{run, bitsIn, spbrIn, lastClockOf, lastClock, lengthOf, lengthIn, during, waited, entryNo, commandNo, beginsAt, entriesBefore}
+use Rattle.qspi.specs.claims.Laws.{Starting, Calm, goesOn, Before, QueueOver, EntriesRun, QueueWraps, LastOfQueue}
 use Rattle.qspi.specs.declared.Qspi.{Qspi}
 use Rattle.qspi.specs.declared.Pins.{Pins}
 use Rattle.qspi.proofs.Completed.{completed-next, completed-wraps}

@@ -5,11 +5,11 @@ use Prim.Native.Nat.{ℕ, zero, suc, _+_, _-_, _*_, _<_}
 use native.Mathlib.Omega.{arith}
 use lib.Dec.{ltb}
 use borrow.Author.Tests.{ltb-true, ltb-false}
-use Rattle.qspi.specs.Registers.{writeSpcr2}
-use Rattle.qspi.specs.Queue.{begun, ready}
-use Rattle.qspi.specs.Run.{run, bitsIn, edgeClock, gap, lastClock, lengthIn, delayIn}
-use Rattle.qspi.specs.Laws.{Starting, Calm, goesOn}
-use Rattle.qspi.specs.Clauses.{NoClock1, Alike, PendingWins}
+use Rattle.qspi.specs.model.Registers.{writeSpcr2}
+use Rattle.qspi.specs.model.Queue.{begun, ready}
+use Rattle.qspi.specs.claims.Run.{run, bitsIn, edgeClock, gap, lastClock, lengthIn, delayIn}
+use Rattle.qspi.specs.claims.Laws.{Starting, Calm, goesOn}
+use Rattle.qspi.specs.claims.Clauses.{NoClock1, Alike, PendingWins}
 use Rattle.qspi.specs.declared.Qspi.{Qspi}
 use Rattle.qspi.specs.declared.Pins.{Pins}
 use Rattle.qspi.proofs.Buffered.{newqp-moves, buffered}

@@ -7,11 +7,11 @@ use lib.Dec.{leb, ltb}
 use borrow.Author.Tests.{le-leb, lt-leb, lt-ltb, ltb-true, leb-true, leb-false}
 use Rattle.steps.specs.Iterate.{iterate}
 use Rattle.steps.proofs.Iterate.{iterate-add}
-use Rattle.qspi.specs.Fields.{spe, cont, bitsOf}
-use Rattle.qspi.specs.Queue.{clock, queueClock, playClock, delayClock, startClock, begun, ready, misoOf, faultNow, faulted, edge}
-use Rattle.qspi.specs.Entry.{edgeFallen, ticked, inDelay}
-use Rattle.qspi.specs.Quiet.{quiet, skipped, skippedIf, plays, untilEdge, edgeWithin}
-use Rattle.qspi.specs.Parts.{withEntry}
+use Rattle.qspi.specs.model.Fields.{spe, cont, bitsOf}
+use Rattle.qspi.specs.model.Queue.{clock, queueClock, playClock, delayClock, startClock, begun, ready, misoOf, faultNow, faulted, edge}
+use Rattle.qspi.specs.model.Entry.{edgeFallen, ticked, inDelay}
+use Rattle.qspi.specs.quick.Quiet.{quiet, skipped, skippedIf, plays, untilEdge, edgeWithin}
+use Rattle.qspi.specs.model.Parts.{withEntry}
 use Rattle.qspi.specs.declared.Qspi.{Qspi}
 use Rattle.qspi.specs.declared.Pins.{Pins}
 use Rattle.qspi.specs.declared.entry.Entry.{Entry}

@@ -5,9 +5,9 @@ use Prim.Native.Nat.{ℕ, _+_, _-_, _%_, _≤_, _<_}
 use native.Mathlib.Omega.{arith}
 use Rattle.steps.specs.Iterate.{iterate}
 use Rattle.steps.proofs.Iterate.{iterate-add, iterate-period}
-use Rattle.qspi.specs.Same.{Decides}
-use Rattle.qspi.specs.Queue.{clock}
-use Rattle.qspi.specs.Laws.{PeriodOut}
+use Rattle.qspi.specs.quick.Same.{Decides}
+use Rattle.qspi.specs.model.Queue.{clock}
+use Rattle.qspi.specs.claims.Laws.{PeriodOut}
 use Rattle.qspi.specs.declared.Qspi.{Qspi}
 
 pub period-out : PeriodOut

@@ -1,9 +1,9 @@
 -- In which clocks MODF and HALTA rise. Assumes nothing.
 use mathlib.Core.Path.{_≡_, refl, sym, ap, _∙_}
 use mathlib.Core.Bool.{Bool, true, false, _||_, true≢false, false≢true}
-use Rattle.qspi.specs.Fields.{halt}
-use Rattle.qspi.specs.Queue.{clock, followed, faultNow}
-use Rattle.qspi.specs.Clauses.{ModfOnly, LastOfDelay, HaltaOnly, HaltaOnce}
+use Rattle.qspi.specs.model.Fields.{halt}
+use Rattle.qspi.specs.model.Queue.{clock, followed, faultNow}
+use Rattle.qspi.specs.claims.Clauses.{ModfOnly, LastOfDelay, HaltaOnly, HaltaOnce}
 use Rattle.qspi.specs.declared.Qspi.{Qspi}
 use Rattle.qspi.specs.declared.Pins.{Pins}
 use Rattle.qspi.proofs.Cases.{clock-by}

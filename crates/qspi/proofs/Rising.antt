@@ -6,15 +6,15 @@ use native.Mathlib.Nat.{zero-add}
 use native.Mathlib.Omega.{arith}
 use lib.Dec.{leb}
 use Rattle.steps.specs.Bits.{bit, merge}
-use Rattle.qspi.specs.Fields.{cpha, spe}
-use Rattle.qspi.specs.Parts.{withRegisters}
-use Rattle.qspi.specs.Registers.{withSpcr1, switched, writeSpcr1}
-use Rattle.qspi.specs.Entry.{mosiAfter}
-use Rattle.qspi.specs.Queue.{begun}
-use Rattle.qspi.specs.Outputs.{enabled, mosi}
-use Rattle.qspi.specs.Run.{run, bitsIn, preIn, spbrIn, mosiBy}
-use Rattle.qspi.specs.Laws.{Starting, Calm}
-use Rattle.qspi.specs.Clauses.{Rises, SpeRises, NoRise, SilentBefore}
+use Rattle.qspi.specs.model.Fields.{cpha, spe}
+use Rattle.qspi.specs.model.Parts.{withRegisters}
+use Rattle.qspi.specs.model.Registers.{withSpcr1, switched, writeSpcr1}
+use Rattle.qspi.specs.model.Entry.{mosiAfter}
+use Rattle.qspi.specs.model.Queue.{begun}
+use Rattle.qspi.specs.model.Outputs.{enabled, mosi}
+use Rattle.qspi.specs.claims.Run.{run, bitsIn, preIn, spbrIn, mosiBy}
+use Rattle.qspi.specs.claims.Laws.{Starting, Calm}
+use Rattle.qspi.specs.claims.Clauses.{Rises, SpeRises, NoRise, SilentBefore}
 use Rattle.qspi.specs.declared.Qspi.{Qspi}
 use Rattle.qspi.specs.declared.Pins.{Pins}
 use Rattle.qspi.proofs.Bounds.{bits-pos}

@@ -3,10 +3,10 @@ use mathlib.Core.Path.{_≡_, refl, sym, ap, subst, _∙_}
 use mathlib.Core.Bool.{true, false}
 use Prim.Native.Nat.{ℕ, zero, suc, _+_, _-_, _*_, _≤_, _<_}
 use native.Mathlib.Omega.{arith}
-use Rattle.qspi.specs.Fields.{spe}
-use Rattle.qspi.specs.Queue.{begun}
-use Rattle.qspi.specs.Run.{run, bitsIn, edgeClock, gap, lastClockOf, lastClock, during, commandNo, beginsAt, entriesBefore}
-use Rattle.qspi.specs.Laws.{Starting, Calm, Before, NotSooner}
+use Rattle.qspi.specs.model.Fields.{spe}
+use Rattle.qspi.specs.model.Queue.{begun}
+use Rattle.qspi.specs.claims.Run.{run, bitsIn, edgeClock, gap, lastClockOf, lastClock, during, commandNo, beginsAt, entriesBefore}
+use Rattle.qspi.specs.claims.Laws.{Starting, Calm, Before, NotSooner}
 use Rattle.qspi.specs.declared.Qspi.{Qspi}
 use Rattle.qspi.specs.declared.Pins.{Pins}
 use Rattle.qspi.proofs.Bounds.{bits-pos, pre-pos}

@@ -2,10 +2,10 @@
 use mathlib.Core.Path.{_≡_, refl, sym, ap, _∙_}
 use mathlib.Core.Bool.{true, false, true≢false}
 use Prim.Native.Nat.{ℕ, zero, suc, _+_}
-use Rattle.qspi.specs.Fields.{spe}
-use Rattle.qspi.specs.Queue.{clock}
-use Rattle.qspi.specs.Run.{run}
-use Rattle.qspi.specs.FlagLaws.{SPIF}
+use Rattle.qspi.specs.model.Fields.{spe}
+use Rattle.qspi.specs.model.Queue.{clock}
+use Rattle.qspi.specs.claims.Run.{run}
+use Rattle.qspi.specs.claims.FlagLaws.{SPIF}
 use Rattle.qspi.specs.declared.Qspi.{Qspi}
 use Rattle.qspi.specs.declared.Pins.{Pins}
 use Rattle.qspi.proofs.Mosi.{by-test}

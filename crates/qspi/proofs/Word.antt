@@ -8,11 +8,11 @@ use lib.Dec.{eqb}
 use lib.ListN.{set}
 use borrow.Author.Tests.{eq-eqb, ne-eqb, eqb-true, eqb-false}
 use Rattle.steps.specs.Bits.{bit, digit}
-use Rattle.qspi.specs.Fields.{cpha}
-use Rattle.qspi.specs.Entry.{pushed, collectedAfter}
-use Rattle.qspi.specs.Queue.{entryAt, begun, misoOf}
-use Rattle.qspi.specs.Run.{bitsIn, edgeClock, collectedBy, readingEdge, wordOf, bitsRead}
-use Rattle.qspi.specs.Laws.{WordStored, UnusedZero, BitsInOrder}
+use Rattle.qspi.specs.model.Fields.{cpha}
+use Rattle.qspi.specs.model.Entry.{pushed, collectedAfter}
+use Rattle.qspi.specs.model.Queue.{entryAt, begun, misoOf}
+use Rattle.qspi.specs.claims.Run.{bitsIn, edgeClock, collectedBy, readingEdge, wordOf, bitsRead}
+use Rattle.qspi.specs.claims.Laws.{WordStored, UnusedZero, BitsInOrder}
 use Rattle.qspi.specs.declared.Qspi.{Qspi}
 use Rattle.qspi.specs.declared.Pins.{Pins}
 use Rattle.qspi.proofs.Bounds.{bits-small}

@@ -2,8 +2,8 @@
 ghost use mathlib.Core.Path.{_≡_};
 ghost use Prim.Native.Nat.{_-_};
 ghost use Rattle.steps.specs.Iterate.{iterate};
-ghost use Rattle.qspi.specs.Queue.{clock};
-ghost use Rattle.qspi.specs.Quiet.{countedDown, beforeChange, quietIf, quiet, skippedIf, skipped, plays, atLeastOne, untilEdge, edgeWithin};
+ghost use Rattle.qspi.specs.model.Queue.{clock};
+ghost use Rattle.qspi.specs.quick.Quiet.{countedDown, beforeChange, quietIf, quiet, skippedIf, skipped, plays, atLeastOne, untilEdge, edgeWithin};
 use crate::Pins;
 use crate::Qspi;
 use crate::entry::Entry;

@@ -1,6 +1,6 @@
 // The entry under way: its bits on MOSI and MISO, its edges, the delay after it, and its end.
 ghost use mathlib.Core.Path.{_≡_};
-ghost use Rattle.qspi.specs.Entry.{changes, bitOut, mosiAfter, pushed, collectedAfter, started, edgeFallen, ticked, delayBegun, inDelay, delayOver, abandoned, silent};
+ghost use Rattle.qspi.specs.model.Entry.{changes, bitOut, mosiAfter, pushed, collectedAfter, started, edgeFallen, ticked, delayBegun, inDelay, delayOver, abandoned, silent};
 use crate::fields::bits_of;
 use crate::fields::choose_bit;
 use crate::fields::choose_word;

@@ -1,6 +1,6 @@
 // The edges of an entry that fall in a hold, which keeps MISO at one level: what they leave is worked out for all of them at once.
 ghost use mathlib.Core.Path.{_≡_};
-ghost use Rattle.qspi.specs.Falls.{changeBy, mosiSince, readsBy, collectedSince, edgesFallen};
+ghost use Rattle.qspi.specs.quick.Falls.{changeBy, mosiSince, readsBy, collectedSince, edgesFallen};
 use crate::entry::Entry;
 use crate::entry::bit_out;
 use crate::entry::changes;

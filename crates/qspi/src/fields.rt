@@ -3,7 +3,7 @@ ghost use mathlib.Core.Path.{_≡_};
 ghost use mathlib.Core.Bool.{cond};
 ghost use Prim.Native.Nat.{_-_};
 ghost use Rattle.steps.specs.Bits.{bit};
-ghost use Rattle.qspi.specs.Fields.{mstr, cpol, cpha, spbr, spe, wren, halt, cont, zeroMeans, bitsOf, preDelay, delayAfter};
+ghost use Rattle.qspi.specs.model.Fields.{mstr, cpol, cpha, spbr, spe, wren, halt, cont, zeroMeans, bitsOf, preDelay, delayAfter};
 
 // Ruled out: the choice the other way round; always the first.
 pub fn choose_word(first: bool, a: u16, b: u16) -> u16

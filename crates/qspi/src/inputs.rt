@@ -1,6 +1,6 @@
 // What the queue reads on its pins: MISO, and PQS3 for a mode fault.
 ghost use mathlib.Core.Path.{_≡_};
-ghost use Rattle.qspi.specs.Queue.{misoOf, selected};
+ghost use Rattle.qspi.specs.model.Queue.{misoOf, selected};
 use crate::Pins;
 use crate::fields::bit_0;
 

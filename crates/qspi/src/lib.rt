@@ -1,10 +1,10 @@
 // The queue side of the module: SPCR0 to SPCR3, SPSR, the queue RAM, and the queue clock by clock.
+mod claims;
 pub mod clocks;
 pub mod entry;
 pub mod falls;
 pub mod fields;
 pub mod inputs;
-mod laws;
 pub mod outputs;
 pub mod queue;
 pub mod ram;

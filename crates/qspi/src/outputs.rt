@@ -1,6 +1,6 @@
 // What the queue puts on SCK, MOSI and the four PCS, and whether it asks for an interrupt.
 ghost use mathlib.Core.Path.{_≡_};
-ghost use Rattle.qspi.specs.Outputs.{enabled, sck, mosi, pcs, asks};
+ghost use Rattle.qspi.specs.model.Outputs.{enabled, sck, mosi, pcs, asks};
 use crate::Qspi;
 use crate::fields::choose_bit;
 use crate::fields::cpol;

@@ -2,7 +2,7 @@
 ghost use mathlib.Core.Path.{_≡_};
 ghost use mathlib.Core.Bool.{cond};
 ghost use Prim.Native.Nat.{_<_};
-ghost use Rattle.qspi.specs.Queue.{wrapTo, entryAt, begun, stored, finished, wrapped, advanced, followed, completed, judged, edge, counted, playClock, delayed, delayClock, ready, clockAt, queueClock, faultNow, faulted, clock};
+ghost use Rattle.qspi.specs.model.Queue.{wrapTo, entryAt, begun, stored, finished, wrapped, advanced, followed, completed, judged, edge, counted, playClock, delayed, delayClock, ready, clockAt, queueClock, faultNow, faulted, clock};
 use crate::Pins;
 use crate::Qspi;
 use crate::entry::started;

@@ -1,7 +1,7 @@
 // The queue RAM by words and their byte lanes.
 ghost use mathlib.Core.Path.{_≡_};
 ghost use Prim.Native.Nat.{_%_};
-ghost use Rattle.qspi.specs.Ram.{receiveWord, transmitWord, commandWord, withReceived, withTransmit, withCommands, writeReceive, writeTransmit, writeCommand};
+ghost use Rattle.qspi.specs.model.Ram.{receiveWord, transmitWord, commandWord, withReceived, withTransmit, withCommands, writeReceive, writeTransmit, writeCommand};
 use crate::Qspi;
 use steps::lower_byte;
 use steps::merge;

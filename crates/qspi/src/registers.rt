@@ -1,7 +1,7 @@
 // The queue's registers as words: reset, reads, writes by byte lanes, and what a write is refused for.
 ghost use mathlib.Core.Path.{_≡_};
 ghost use mathlib.Core.Bool.{true, false};
-ghost use Rattle.qspi.specs.Registers.{disabled, reset, spcr0Word, spcr1Word, spcr2Word, spcr3Spsr, statusRead, risen, switched, writeSpcr0, writeSpcr1, spcr2Bits, writeSpcr2, writeSpcr3Spsr, spcr0Unmodelled, spcr1Unmodelled, spcr3Unmodelled, spcr0Guarded, spcr1Guarded};
+ghost use Rattle.qspi.specs.model.Registers.{disabled, reset, spcr0Word, spcr1Word, spcr2Word, spcr3Spsr, statusRead, risen, switched, writeSpcr0, writeSpcr1, spcr2Bits, writeSpcr2, writeSpcr3Spsr, spcr0Unmodelled, spcr1Unmodelled, spcr3Unmodelled, spcr0Guarded, spcr1Guarded};
 use crate::Qspi;
 use crate::entry::Entry;
 use crate::fields::mstr;

@@ -3,7 +3,7 @@ ghost use mathlib.Core.Path.{_≡_};
 ghost use mathlib.Core.Bool.{cond};
 ghost use Prim.Native.Nat.{_%_, _<_, _≤_, min};
 ghost use Rattle.steps.specs.Iterate.{iterate};
-ghost use Rattle.qspi.specs.Queue.{clock};
+ghost use Rattle.qspi.specs.model.Queue.{clock};
 use crate::Pins;
 use crate::Qspi;
 use crate::entry::Entry;

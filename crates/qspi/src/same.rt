@@ -1,6 +1,6 @@
 // Whether two states of the queue are one, field by field.
 ghost use mathlib.Core.Path.{_≡_};
-ghost use Rattle.qspi.specs.Same.{Decides};
+ghost use Rattle.qspi.specs.quick.Same.{Decides};
 use crate::Qspi;
 use crate::entry::Entry;
 use crate::queue::Next;

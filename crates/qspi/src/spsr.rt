@@ -2,7 +2,7 @@
 ghost use mathlib.Core.Path.{_≡_};
 ghost use Prim.Native.Nat.{_≤_};
 ghost use Rattle.steps.specs.Bits.{digit};
-ghost use Rattle.qspi.specs.Spsr.{either, without, spsrByte, flagsSeen, falls, falling, fallen};
+ghost use Rattle.qspi.specs.model.Spsr.{either, without, spsrByte, flagsSeen, falls, falling, fallen};
 
 #[repr(C)]
 pub struct Flags {

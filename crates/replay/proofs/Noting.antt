@@ -2,17 +2,17 @@
 use mathlib.Core.Path.{_≡_, refl, sym, ap, _∙_}
 use mathlib.Core.List.{List, [], _++_}
 use Prim.Native.Nat.{ℕ, _*_, _<_}
-use Rattle.qsm.specs.State.{resetModule}
+use Rattle.qsm.specs.model.State.{resetModule}
 use Rattle.qsm.specs.declared.state.Module.{Module}
 use Rattle.trace.specs.Trace.{answerLength}
 use Rattle.trace.specs.Play.{play}
-use Rattle.arrivals.specs.Words.{Word, words, leaves, figuresOf}
-use Rattle.arrivals.specs.Arrival.{arrival, told, figureOf}
-use Rattle.arrivals.specs.Tally.{tallyOf, withArrival}
-use Rattle.arrivals.specs.declared.Tally.{Tally}
-use Rattle.arrivals.proofs.Events.{figure-told}
-use Rattle.arrivals.proofs.Records.{by-record, state-left, words-append, leaves-append, figures-append}
-use Rattle.arrivals.proofs.Tallies.{tally-goes-on}
+use Rattle.claims_words.specs.Words.{Word, words, leaves, figuresOf}
+use Rattle.claims_words.specs.Arrival.{arrival, told, figureOf}
+use Rattle.claims_words.specs.Tally.{tallyOf, withArrival}
+use Rattle.claims_words.specs.declared.Tally.{Tally}
+use Rattle.claims_words.proofs.Events.{figure-told}
+use Rattle.claims_words.proofs.Records.{by-record, state-left, words-append, leaves-append, figures-append}
+use Rattle.claims_words.proofs.Tallies.{tally-goes-on}
 use Rattle.replay.specs.Run.{started, Turns}
 use Rattle.replay.specs.Noted.{Notes}
 use Rattle.replay.specs.declared.run.Run.{Run}

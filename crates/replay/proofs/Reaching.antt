@@ -2,20 +2,20 @@
 use mathlib.Core.Path.{_≡_, refl, sym, ap, subst, _∙_}
 use mathlib.Core.List.{List, [], _∷_, _++_}
 use Prim.Native.Nat.{ℕ}
-use Rattle.qsm.specs.State.{resetModule}
+use Rattle.qsm.specs.model.State.{resetModule}
 use Rattle.qsm.specs.declared.state.Module.{Module}
 use Rattle.trace.specs.Trace.{parsed}
 use Rattle.trace.specs.Play.{play}
 use Rattle.trace.specs.declared.Parsed.{Parsed}
 use Rattle.trace.specs.declared.Parsed.the-variants.{Record, Unknown, Cut}
-use Rattle.histories.specs.History.{run, log}
-use Rattle.histories.proofs.Lifted.{stepped}
-use Rattle.arrivals.specs.Words.{recordLeaves, leaves}
-use Rattle.arrivals.specs.declared.Tally.{Tally}
-use Rattle.arrivals.proofs.Records.{state-left, leaves-append}
-use Rattle.account.specs.Report.{report}
-use Rattle.account.specs.Accounted.{Balanced, sinceLast}
-use Rattle.account.proofs.Lifting.{with-resets}
+use Rattle.claims_histories.specs.History.{run, log}
+use Rattle.claims_histories.proofs.Lifted.{stepped}
+use Rattle.claims_words.specs.Words.{recordLeaves, leaves}
+use Rattle.claims_words.specs.declared.Tally.{Tally}
+use Rattle.claims_words.proofs.Records.{state-left, leaves-append}
+use Rattle.claims_account.specs.Report.{report}
+use Rattle.claims_account.specs.Claims.{Balanced, sinceLast}
+use Rattle.claims_account.proofs.Lifting.{with-resets}
 use Rattle.replay.specs.Run.{started, Turns}
 use Rattle.replay.specs.Noted.{Notes}
 use Rattle.replay.specs.Reached.{eventOf, events, Reached}

@@ -2,10 +2,10 @@
 use mathlib.Core.List.{List}
 use mathlib.Core.Path.{_≡_}
 use Prim.Native.Nat.{ℕ}
-use Rattle.qsm.specs.State.{resetModule}
-use Rattle.arrivals.specs.Words.{words, leaves, figuresOf}
-use Rattle.arrivals.specs.Tally.{tallyOf}
-use Rattle.arrivals.specs.declared.Tally.{Tally}
+use Rattle.qsm.specs.model.State.{resetModule}
+use Rattle.claims_words.specs.Words.{words, leaves, figuresOf}
+use Rattle.claims_words.specs.Tally.{tallyOf}
+use Rattle.claims_words.specs.declared.Tally.{Tally}
 use Rattle.replay.specs.declared.run.Run.{Run}
 
 -- Module and tally are those of one list of records, played from reset on. Which records come is the system's; that each turn adds the word of its own

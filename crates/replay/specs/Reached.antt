@@ -2,14 +2,14 @@
 use mathlib.Core.List.{List, [], _∷_, _++_}
 use mathlib.Core.Path.{_≡_}
 use Prim.Native.Nat.{ℕ}
-use Rattle.qsm.specs.State.{resetModule}
+use Rattle.qsm.specs.model.State.{resetModule}
 use Rattle.qsm.specs.declared.event.Event.{Event}
 use Rattle.trace.specs.Trace.{parsed}
 use Rattle.trace.specs.declared.Parsed.{Parsed}
 use Rattle.trace.specs.declared.Parsed.the-variants.{Record, Unknown, Cut}
-use Rattle.histories.specs.History.{run, log}
-use Rattle.account.specs.Report.{report}
-use Rattle.account.specs.Accounted.{Balanced, sinceLast}
+use Rattle.claims_histories.specs.History.{run, log}
+use Rattle.claims_account.specs.Report.{report}
+use Rattle.claims_account.specs.Claims.{Balanced, sinceLast}
 use Rattle.replay.specs.declared.run.Run.{Run}
 
 -- The events of the records that were answered.

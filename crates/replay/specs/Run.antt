@@ -4,7 +4,7 @@ use mathlib.Core.Bool.{Bool, false, cond}
 use mathlib.Core.List.{List, flatten}
 use Prim.Native.Nat.{ℕ, _-_}
 use lib.ListN.{length, take}
-use Rattle.qsm.specs.State.{resetModule}
+use Rattle.qsm.specs.model.State.{resetModule}
 use Rattle.trace.specs.Play.{Outcome, stopNumber, play}
 use Rattle.trace.specs.Laws.{unread}
 use Rattle.trace.specs.declared.Stop.{Stop}

@@ -1,7 +1,7 @@
 // The account of the characters of a trace, said at its end or at its stop.
 ghost use Rattle.text.specs.Line.{Shows};
 ghost use Rattle.text.specs.Account.{accountLine};
-ghost use Rattle.account.specs.Report.{report};
+ghost use Rattle.claims_account.specs.Report.{report};
 use crate::noise::write_line;
 use crate::run::Run;
 use qsm::state::Module;
@@ -12,7 +12,7 @@ use text::line::Line;
 fn module_line(m: Module) -> Line
     ensures { λ r. ⌜ Shows r (accountLine (report m .taken) (report m .lost) (report m .waiting)) ⌝ }
 {
-    let a = account::reported(m);
+    let a = claims_account::reported(m);
     text::account::account_line(a.taken, a.lost, a.waiting)
 }
 

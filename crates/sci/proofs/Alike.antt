@@ -3,15 +3,15 @@ use mathlib.Core.Path.{_≡_, refl, ap, sym, subst, _∙_}
 use mathlib.Core.Bool.{Bool, true, false, cond, not, _&&_, and-false, true≢false}
 use mathlib.Core.List.{List, [], _∷_}
 use Prim.Native.Nat.{ℕ}
-use Rattle.sci.specs.Flags.{RDRF, OR, receiveFlags}
-use Rattle.sci.specs.Members.{member}
-use Rattle.sci.specs.Status.{has, raiseIf}
-use Rattle.sci.specs.Control.{PT, PE, settings}
-use Rattle.sci.specs.Bits.{parityBit}
-use Rattle.sci.specs.Framer.{frameOf}
-use Rattle.sci.specs.Receiver.{outcome, entered, statusAfter, receiverAfter, received}
-use Rattle.sci.specs.Line.{Op, sample, read, act, acts, looked, fetched, readStatus, freshIf, delivers, watch}
-use Rattle.sci.specs.Alike.{Same, line, Alike}
+use Rattle.sci.specs.model.Flags.{RDRF, OR, receiveFlags}
+use Rattle.sci.specs.claims.Members.{member}
+use Rattle.sci.specs.model.Status.{has, raiseIf}
+use Rattle.sci.specs.model.Control.{PT, PE, settings}
+use Rattle.sci.specs.model.Bits.{parityBit}
+use Rattle.sci.specs.model.Framer.{frameOf}
+use Rattle.sci.specs.model.Receiver.{outcome, entered, statusAfter, receiverAfter, received}
+use Rattle.sci.specs.claims.Line.{Op, sample, read, act, acts, looked, fetched, readStatus, freshIf, delivers, watch}
+use Rattle.sci.specs.claims.Alike.{Same, line, Alike}
 use Rattle.sci.specs.declared.status.Status.{Status}
 use Rattle.sci.specs.declared.framer.Frame.{Frame}
 use Rattle.sci.specs.declared.receiver.Receiver.{Receiver}

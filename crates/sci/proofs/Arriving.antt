@@ -8,12 +8,12 @@ use native.Mathlib.Omega.{arith}
 use lib.ListN.{replicate, length, getD, length-replicate}
 use lib.Seq.{getD-append-add, getD-at}
 use Rattle.steps.specs.Bits.{bit}
-use Rattle.sci.specs.Control.{PT, PE, M, bitsOf}
-use Rattle.sci.specs.Bits.{parityBit}
-use Rattle.sci.specs.Framer.{searching, ends, frameOf, fixed, framed, stopBit}
-use Rattle.sci.specs.Receiver.{three, full, receiverAfter, received}
-use Rattle.sci.specs.Levels.{value, frameLevels, endSample}
-use Rattle.sci.specs.Link.{Delivered, NoError}
+use Rattle.sci.specs.model.Control.{PT, PE, M, bitsOf}
+use Rattle.sci.specs.model.Bits.{parityBit}
+use Rattle.sci.specs.model.Framer.{searching, ends, frameOf, fixed, framed, stopBit}
+use Rattle.sci.specs.model.Receiver.{three, full, receiverAfter, received}
+use Rattle.sci.specs.claims.Levels.{value, frameLevels, endSample}
+use Rattle.sci.specs.claims.Link.{Delivered, NoError}
 use Rattle.sci.specs.declared.framer.Framer.{Framer}
 use Rattle.sci.specs.declared.status.Status.{Status}
 use Rattle.sci.specs.declared.receiver.Received.{Received}

@@ -4,7 +4,7 @@ use mathlib.Core.Path.{_≡_, refl, ap, sym, subst, _∙_}
 use mathlib.Core.Bool.{Bool, true, false, _||_, true≢false, false≢true}
 use mathlib.Core.List.{List, [], _∷_, _++_, append-assoc}
 use Prim.Native.Nat.{ℕ}
-use Rattle.sci.specs.Overrun.{Mark, frameLost, wordCame, statusRead, wordDelivered, wasReset, hasReset, hasStatusRead, oneRun, openRun, Overrun}
+use Rattle.sci.specs.claims.Overrun.{Mark, frameLost, wordCame, statusRead, wordDelivered, wasReset, hasReset, hasStatusRead, oneRun, openRun, Overrun}
 
 -- The first loss of a run raises OR; with a debt no word comes.
 abbrev pub Okay : Bool → Bool → List Mark → Type 0

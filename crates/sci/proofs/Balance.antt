@@ -5,19 +5,19 @@ use mathlib.Core.List.{List, [], _∷_, _++_}
 use Prim.Native.Nat.{ℕ, _%_}
 use native.Mathlib.Omega.{arith}
 use Rattle.steps.specs.Bits.{digit}
-use Rattle.sci.specs.Flags.{OR, RDRF, receiveFlags}
-use Rattle.sci.specs.Members.{member}
-use Rattle.sci.specs.Status.{has, markSeen, fallSeen}
-use Rattle.sci.specs.Control.{RE}
-use Rattle.sci.specs.Receiver.{outcome, received}
-use Rattle.sci.specs.Transmitter.{sent}
-use Rattle.sci.specs.Line.{read, readStatus, freshIf, delivers}
-use Rattle.sci.specs.Alike.{Same}
-use Rattle.sci.specs.Account.{most, more, counting}
-use Rattle.sci.specs.Serial.{resetSci, active, due}
-use Rattle.sci.specs.History.{Step, reset, clock, reads, writesSccr0, writesSccr1, writesScdr, step, run, receiving}
-use Rattle.sci.specs.Overrun.{Mark, sampleMarks, lookMarks, deliveryMarks, stepMarks, log, hasReset, openRun}
-use Rattle.sci.specs.Balance.{Balanced, happens, Balance}
+use Rattle.sci.specs.model.Flags.{OR, RDRF, receiveFlags}
+use Rattle.sci.specs.claims.Members.{member}
+use Rattle.sci.specs.model.Status.{has, markSeen, fallSeen}
+use Rattle.sci.specs.model.Control.{RE}
+use Rattle.sci.specs.model.Receiver.{outcome, received}
+use Rattle.sci.specs.model.Transmitter.{sent}
+use Rattle.sci.specs.claims.Line.{read, readStatus, freshIf, delivers}
+use Rattle.sci.specs.claims.Alike.{Same}
+use Rattle.sci.specs.model.Account.{most, more, counting}
+use Rattle.sci.specs.model.Serial.{resetSci, active, due}
+use Rattle.sci.specs.claims.History.{Step, reset, clock, reads, writesSccr0, writesSccr1, writesScdr, step, run, receiving}
+use Rattle.sci.specs.claims.Overrun.{Mark, sampleMarks, lookMarks, deliveryMarks, stepMarks, log, hasReset, openRun}
+use Rattle.sci.specs.claims.Balance.{Balanced, happens, Balance}
 use Rattle.sci.specs.declared.status.Status.{Status}
 use Rattle.sci.specs.declared.receiver.Receiver.{Receiver}
 use Rattle.sci.specs.declared.receiver.Outcome.{Outcome}

@@ -2,13 +2,13 @@
 use mathlib.Core.Bool.{true}
 use mathlib.Core.Path.{_≡_, refl}
 use lib.ListN.{length, replicate}
-use Rattle.sci.specs.Status.{has, raise, raiseIf, fall, fallIf}
-use Rattle.sci.specs.Framer.{startBit, dataBit, stopBit, fixed, framed}
-use Rattle.sci.specs.Receiver.{outcome, raised, entered, statusAfter, receiverAfter, received}
-use Rattle.sci.specs.Transmitter.{sent}
-use Rattle.sci.specs.Serial.{wroteSccr0, wroteSccr1}
-use Rattle.sci.specs.Instances.{instances}
-use Rattle.sci.specs.Clauses.{Clauses}
+use Rattle.sci.specs.model.Status.{has, raise, raiseIf, fall, fallIf}
+use Rattle.sci.specs.model.Framer.{startBit, dataBit, stopBit, fixed, framed}
+use Rattle.sci.specs.model.Receiver.{outcome, raised, entered, statusAfter, receiverAfter, received}
+use Rattle.sci.specs.model.Transmitter.{sent}
+use Rattle.sci.specs.model.Serial.{wroteSccr0, wroteSccr1}
+use Rattle.sci.specs.claims.Instances.{instances}
+use Rattle.sci.specs.claims.Clauses.{Clauses}
 use Rattle.sci.proofs.ReceiverClauses.{receiver-clauses}
 use Rattle.sci.proofs.Lasting.{transmitter-clauses}
 use Rattle.sci.proofs.SerialClauses.{serial-clauses}

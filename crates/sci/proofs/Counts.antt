@@ -2,9 +2,9 @@
 use mathlib.Core.Path.{_≡_, refl, sym}
 use mathlib.Core.Bool.{Bool, true, false, _&&_, false≢true}
 use Prim.Native.Nat.{ℕ}
-use Rattle.sci.specs.Framer.{ends}
-use Rattle.sci.specs.Receiver.{outcome}
-use Rattle.sci.specs.Account.{counting, accounted}
+use Rattle.sci.specs.model.Framer.{ends}
+use Rattle.sci.specs.model.Receiver.{outcome}
+use Rattle.sci.specs.model.Account.{counting, accounted}
 use Rattle.sci.specs.declared.status.Status.{Status}
 use Rattle.sci.specs.declared.receiver.Receiver.{Receiver}
 use Rattle.sci.specs.declared.account.Account.{Account}

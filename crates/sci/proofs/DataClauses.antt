@@ -9,11 +9,11 @@ use lib.Dec.{eqb, leb}
 use lib.Pow.{pow-mono}
 use borrow.Author.Tests.{ne-eqb, lt-leb}
 use Rattle.steps.specs.Bits.{bit, merge}
-use Rattle.sci.specs.Flags.{receiveFlags, transmitFlags}
-use Rattle.sci.specs.Members.{member}
-use Rattle.sci.specs.Status.{fallSeen}
-use Rattle.sci.specs.Serial.{dataWritten}
-use Rattle.sci.specs.DataClauses.{receiveFlag, transmitFlag, Fall, WriteClauses, DataClauses}
+use Rattle.sci.specs.model.Flags.{receiveFlags, transmitFlags}
+use Rattle.sci.specs.claims.Members.{member}
+use Rattle.sci.specs.model.Status.{fallSeen}
+use Rattle.sci.specs.model.Serial.{dataWritten}
+use Rattle.sci.specs.claims.DataClauses.{receiveFlag, transmitFlag, Fall, WriteClauses, DataClauses}
 use Rattle.sci.specs.declared.flags.Flags.{Flags}
 use Rattle.sci.specs.declared.serial.Sci.{Sci}
 use Rattle.sci.specs.declared.status.Status.{Status}

@@ -4,14 +4,14 @@ use mathlib.Core.Bool.{true, false}
 use mathlib.Core.Path.{refl}
 use Prim.Native.Nat.{ℕ, zero, suc}
 use lib.ListN.{replicate}
-use Rattle.sci.specs.Flags.{flag}
-use Rattle.sci.specs.Status.{has, raiseIf, fallIf}
-use Rattle.sci.specs.Framer.{searching, fixed, framed}
-use Rattle.sci.specs.Receiver.{outcome, entered, statusAfter, receiverAfter, received}
-use Rattle.sci.specs.Transmitter.{sent}
-use Rattle.sci.specs.Serial.{sampled, clocked}
-use Rattle.sci.specs.Wire.{Wired, clock, step, clocksIn, Frame, begun, Unchanged, Matched, Sends}
-use Rattle.sci.specs.Demand2.{Demand2}
+use Rattle.sci.specs.model.Flags.{flag}
+use Rattle.sci.specs.model.Status.{has, raiseIf, fallIf}
+use Rattle.sci.specs.model.Framer.{searching, fixed, framed}
+use Rattle.sci.specs.model.Receiver.{outcome, entered, statusAfter, receiverAfter, received}
+use Rattle.sci.specs.model.Transmitter.{sent}
+use Rattle.sci.specs.model.Serial.{sampled, clocked}
+use Rattle.sci.specs.claims.Wire.{Wired, clock, step, clocksIn, Frame, begun, Unchanged, Matched, Sends}
+use Rattle.sci.specs.claims.Demand2.{Demand2}
 use Rattle.sci.specs.declared.status.Status.{Status}
 use Rattle.sci.specs.declared.receiver.Receiver.{Receiver}
 use Rattle.sci.specs.declared.serial.Sci.{Sci}

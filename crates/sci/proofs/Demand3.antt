@@ -1,5 +1,5 @@
 -- Demand 3 of the serial half.
-use Rattle.sci.specs.Demand3.{Demand3}
+use Rattle.sci.specs.claims.Demand3.{Demand3}
 use Rattle.sci.proofs.Recovery.{recovered}
 use Rattle.sci.proofs.Overrun.{overrun}
 

@@ -7,10 +7,10 @@ use native.Mathlib.Omega.{arith}
 use lib.Dec.{ltb}
 use lib.ListN.{length, drop}
 use Rattle.steps.specs.Bits.{digit}
-use Rattle.sci.specs.Bits.{vote, majority, disagreed, onesOf}
-use Rattle.sci.specs.Framer.{more, searching, begun, ends, frameOf, collected, fixed, framed}
-use Rattle.sci.specs.Levels.{endSample, framerAfter, Unmoved}
-use Rattle.sci.specs.Figure.{rt, startOnes, disagreements, figure, Stands, FrameFigure}
+use Rattle.sci.specs.model.Bits.{vote, majority, disagreed, onesOf}
+use Rattle.sci.specs.model.Framer.{more, searching, begun, ends, frameOf, collected, fixed, framed}
+use Rattle.sci.specs.claims.Levels.{endSample, framerAfter, Unmoved}
+use Rattle.sci.specs.claims.Figure.{rt, startOnes, disagreements, figure, Stands, FrameFigure}
 use Rattle.sci.specs.declared.framer.Framer.{Framer}
 use Rattle.sci.proofs.Votes.{disagreed-small, digit-small}
 use Rattle.sci.proofs.Walk.{Walk, bitAt, walk-start, walk-bit, walk-stop, along}

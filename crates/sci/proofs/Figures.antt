@@ -8,18 +8,18 @@ use lib.Dec.{eqb, ltb}
 use borrow.Author.Tests.{lt-ltb, not-true}
 use lib.ListN.{drop}
 use Rattle.steps.specs.Bits.{digit, merge}
-use Rattle.sci.specs.Flags.{PF, FE, NF, OR, IDLE, RAF, RDRF}
-use Rattle.sci.specs.Members.{member}
-use Rattle.sci.specs.Status.{has, raise, raiseIf}
-use Rattle.sci.specs.Control.{RE, PE, PT, sccr0Bits}
-use Rattle.sci.specs.Bits.{disagreed, parityBit}
-use Rattle.sci.specs.Framer.{searching, frameOf, startBit, dataBit, stopBit, fixed, adjusts, framed}
-use Rattle.sci.specs.Receiver.{outcome, raised, entered, statusAfter, receiverAfter, received}
-use Rattle.sci.specs.Transmitter.{sent}
-use Rattle.sci.specs.Serial.{active, due, heard, afterSent, sampled, prescaled, clocked, sccr1Word, stopped, withSccr1, dataWritten, sccr0Set, wroteSccr0, wroteSccr1, sccr0Guarded, sccr1Guarded}
-use Rattle.sci.specs.History.{Step, reset, clock, reads, writesSccr0, writesSccr1, writesScdr, step}
-use Rattle.sci.specs.Figure.{rt, startOnes, disagreements, figure, mixed, anyMixed, noisy, enters, withSum, figureAfter, noisiest, Figures}
-use Rattle.sci.specs.Levels.{Unmoved}
+use Rattle.sci.specs.model.Flags.{PF, FE, NF, OR, IDLE, RAF, RDRF}
+use Rattle.sci.specs.claims.Members.{member}
+use Rattle.sci.specs.model.Status.{has, raise, raiseIf}
+use Rattle.sci.specs.model.Control.{RE, PE, PT, sccr0Bits}
+use Rattle.sci.specs.model.Bits.{disagreed, parityBit}
+use Rattle.sci.specs.model.Framer.{searching, frameOf, startBit, dataBit, stopBit, fixed, adjusts, framed}
+use Rattle.sci.specs.model.Receiver.{outcome, raised, entered, statusAfter, receiverAfter, received}
+use Rattle.sci.specs.model.Transmitter.{sent}
+use Rattle.sci.specs.model.Serial.{active, due, heard, afterSent, sampled, prescaled, clocked, sccr1Word, stopped, withSccr1, dataWritten, sccr0Set, wroteSccr0, wroteSccr1, sccr0Guarded, sccr1Guarded}
+use Rattle.sci.specs.claims.History.{Step, reset, clock, reads, writesSccr0, writesSccr1, writesScdr, step}
+use Rattle.sci.specs.claims.Figure.{rt, startOnes, disagreements, figure, mixed, anyMixed, noisy, enters, withSum, figureAfter, noisiest, Figures}
+use Rattle.sci.specs.claims.Levels.{Unmoved}
 use Rattle.sci.specs.declared.status.Status.{Status}
 use Rattle.sci.specs.declared.framer.Framer.{Framer}
 use Rattle.sci.specs.declared.framer.Frame.{Frame}

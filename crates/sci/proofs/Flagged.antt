@@ -2,9 +2,9 @@
 use mathlib.Core.Path.{_≡_, refl, ap, sym, _∙_}
 use mathlib.Core.Bool.{Bool, true, false, not, _&&_, _||_, and-true, and-false, or-false}
 use Prim.Native.Nat.{ℕ, _^_}
-use Rattle.sci.specs.Flags.{flag, common}
-use Rattle.sci.specs.Members.{member}
-use Rattle.sci.specs.Status.{has, raise, raiseIf, fall, fallIf, markSeen, fallSeen}
+use Rattle.sci.specs.model.Flags.{flag, common}
+use Rattle.sci.specs.claims.Members.{member}
+use Rattle.sci.specs.model.Status.{has, raise, raiseIf, fall, fallIf, markSeen, fallSeen}
 use Rattle.sci.specs.declared.flags.Flags.{Flags}
 use Rattle.sci.specs.declared.status.Status.{Status}
 use Rattle.sci.proofs.Membership.{member-insert, member-without, member-common, contains-flag}

@@ -4,14 +4,14 @@ use mathlib.Core.Bool.{Bool, true, false, cond, not, _&&_, true≢false}
 use mathlib.Core.List.{List, [], _∷_, _++_}
 use mathlib.Core.Option.{none}
 use Prim.Native.Nat.{ℕ}
-use Rattle.sci.specs.Flags.{transmitFlags}
-use Rattle.sci.specs.Status.{fallSeen}
-use Rattle.sci.specs.Control.{RE}
-use Rattle.sci.specs.Transmitter.{sent}
-use Rattle.sci.specs.Line.{Op, sample, act, acts, readStatus, delivers, shown, watch}
-use Rattle.sci.specs.Alike.{Alike}
-use Rattle.sci.specs.Serial.{active, due, clocked, dataWritten, wroteSccr0, wroteSccr1, sccr0Guarded, sccr1Guarded}
-use Rattle.sci.specs.History.{Step, reset, clock, reads, writesSccr0, writesSccr1, writesScdr, step, run, receiving, sampling, stepOps, ops, seenIf, stepSeen, watched, breaks, Unbroken}
+use Rattle.sci.specs.model.Flags.{transmitFlags}
+use Rattle.sci.specs.model.Status.{fallSeen}
+use Rattle.sci.specs.model.Control.{RE}
+use Rattle.sci.specs.model.Transmitter.{sent}
+use Rattle.sci.specs.claims.Line.{Op, sample, act, acts, readStatus, delivers, shown, watch}
+use Rattle.sci.specs.claims.Alike.{Alike}
+use Rattle.sci.specs.model.Serial.{active, due, clocked, dataWritten, wroteSccr0, wroteSccr1, sccr0Guarded, sccr1Guarded}
+use Rattle.sci.specs.claims.History.{Step, reset, clock, reads, writesSccr0, writesSccr1, writesScdr, step, run, receiving, sampling, stepOps, ops, seenIf, stepSeen, watched, breaks, Unbroken}
 use Rattle.sci.specs.declared.status.Status.{Status}
 use Rattle.sci.specs.declared.receiver.Received.{Received}
 use Rattle.sci.specs.declared.serial.Sci.{Sci}

@@ -5,9 +5,9 @@ use Prim.Native.Nat.{ℕ, suc, _+_, _-_, _*_, _%_, _≤_, _<_}
 use native.Mathlib.Omega.{arith}
 use lib.Dec.{eqb, leb, ltb}
 use borrow.Author.Tests.{eqb-true, eqb-false, ltb-true, not-true}
-use Rattle.sci.specs.Bits.{vote, onesOf}
-use Rattle.sci.specs.Framer.{more, searching, ends, searched, judged, startBit, dataBit, stopBit, inBit, fixed, afterOne, nearNext, nearThis, earlyFall, lateFall, adjusts, adjusted, framed}
-use Rattle.sci.specs.Sound.{span, togo, Fits}
+use Rattle.sci.specs.model.Bits.{vote, onesOf}
+use Rattle.sci.specs.model.Framer.{more, searching, ends, searched, judged, startBit, dataBit, stopBit, inBit, fixed, afterOne, nearNext, nearThis, earlyFall, lateFall, adjusts, adjusted, framed}
+use Rattle.sci.specs.claims.Sound.{span, togo, Fits}
 use Rattle.sci.specs.declared.framer.Framer.{Framer}
 use Rattle.sci.proofs.Membership.{and-left, and-right}
 

@@ -9,12 +9,12 @@ use native.Mathlib.Omega.{arith}
 use native.Mathlib.Decide.{decLt}
 use lib.Seq.{getD-append-add}
 use lib.ListN.{replicate, length, getD, List·getD-append, getD-replicate, length-replicate}
-use Rattle.sci.specs.Control.{M, bitsOf, frameSamples}
-use Rattle.sci.specs.Framer.{searching, ends, fixed, framed}
-use Rattle.sci.specs.Receiver.{three, receiverAfter, received}
-use Rattle.sci.specs.Levels.{stretched, frameLevels, framerAfter, endSample}
-use Rattle.sci.specs.Line.{Op, sample, read, act, acts, readStatus}
-use Rattle.sci.specs.Link.{samplesOf}
+use Rattle.sci.specs.model.Control.{M, bitsOf, frameSamples}
+use Rattle.sci.specs.model.Framer.{searching, ends, fixed, framed}
+use Rattle.sci.specs.model.Receiver.{three, receiverAfter, received}
+use Rattle.sci.specs.claims.Levels.{stretched, frameLevels, framerAfter, endSample}
+use Rattle.sci.specs.claims.Line.{Op, sample, read, act, acts, readStatus}
+use Rattle.sci.specs.claims.Link.{samplesOf}
 use Rattle.sci.specs.declared.framer.Framer.{Framer}
 use Rattle.sci.specs.declared.status.Status.{Status}
 use Rattle.sci.specs.declared.receiver.Receiver.{Receiver}

@@ -12,8 +12,8 @@ use lib.Bits.{shifted-half}
 use lib.Pow.{pow-add}
 use native.Mathlib.Nat.{pow-suc}
 use Rattle.steps.specs.Bits.{digit}
-use Rattle.sci.specs.Framer.{searching, begun, ends, collected, fixed, afterOne, adjusts, framed}
-use Rattle.sci.specs.Levels.{value, stretched, frameLevels, endSample, framerAfter, Unmoved}
+use Rattle.sci.specs.model.Framer.{searching, begun, ends, collected, fixed, afterOne, adjusts, framed}
+use Rattle.sci.specs.claims.Levels.{value, stretched, frameLevels, endSample, framerAfter, Unmoved}
 use Rattle.sci.specs.declared.framer.Framer.{Framer}
 use Rattle.sci.proofs.Walk.{Walk, here, on, bitAt, walk-start, walk-bit, walk-stop, unmoved, along}
 use Rattle.sci.proofs.Membership.{and-left}

@@ -7,14 +7,14 @@ use mathlib.Core.Bool.{Bool, true, false, false≢true}
 use native.Mathlib.Omega.{arith}
 use lib.Dec.{eqb}
 use Rattle.steps.specs.Bits.{merge}
-use Rattle.sci.specs.Flags.{receiveFlags, transmitFlags}
-use Rattle.sci.specs.Members.{member}
-use Rattle.sci.specs.Status.{fallSeen}
-use Rattle.sci.specs.Control.{RE, sccr1Bits, settings}
-use Rattle.sci.specs.Transmitter.{sent}
-use Rattle.sci.specs.Serial.{sccr1Word, withSleep, withSccr1, stopped, wroteSccr1}
-use Rattle.sci.specs.Line.{read}
-use Rattle.sci.specs.Wire.{Access, readStatus, readData, writeData, writeControl, accessed, Same, hearing}
+use Rattle.sci.specs.model.Flags.{receiveFlags, transmitFlags}
+use Rattle.sci.specs.claims.Members.{member}
+use Rattle.sci.specs.model.Status.{fallSeen}
+use Rattle.sci.specs.model.Control.{RE, sccr1Bits, settings}
+use Rattle.sci.specs.model.Transmitter.{sent}
+use Rattle.sci.specs.model.Serial.{sccr1Word, withSleep, withSccr1, stopped, wroteSccr1}
+use Rattle.sci.specs.claims.Line.{read}
+use Rattle.sci.specs.claims.Wire.{Access, readStatus, readData, writeData, writeControl, accessed, Same, hearing}
 use Rattle.sci.specs.declared.status.Status.{Status}
 use Rattle.sci.specs.declared.receiver.Received.{Received}
 use Rattle.sci.specs.declared.transmitter.Transmitter.{Transmitter}

@@ -7,11 +7,11 @@ use native.Mathlib.Omega.{arith}
 use lib.Bits.{bitAnd, and-mod, and-le-r}
 use lib.ListN.{replicate}
 use Rattle.steps.specs.Iterate.{iterate}
-use Rattle.sci.specs.Flags.{flag}
-use Rattle.sci.specs.Line.{Op, shown, Seen}
-use Rattle.sci.specs.Serial.{clocked, statusRead, dataRead, wroteSccr0, wroteSccr1, sccr0Guarded, sccr1Guarded}
-use Rattle.sci.specs.History.{Step, reset, clock, reads, writesSccr0, writesSccr1, writesScdr, step, run, sampling, stepOps, ops, seenIf, stepSeen, watched, Unbroken}
-use Rattle.sci.specs.Overrun.{Mark, stepMarks, log}
+use Rattle.sci.specs.model.Flags.{flag}
+use Rattle.sci.specs.claims.Line.{Op, shown, Seen}
+use Rattle.sci.specs.model.Serial.{clocked, statusRead, dataRead, wroteSccr0, wroteSccr1, sccr0Guarded, sccr1Guarded}
+use Rattle.sci.specs.claims.History.{Step, reset, clock, reads, writesSccr0, writesSccr1, writesScdr, step, run, sampling, stepOps, ops, seenIf, stepSeen, watched, Unbroken}
+use Rattle.sci.specs.claims.Overrun.{Mark, stepMarks, log}
 use Rattle.sci.specs.declared.status.Status.{Status}
 use Rattle.sci.specs.declared.serial.Sci.{Sci}
 

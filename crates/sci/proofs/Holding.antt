@@ -5,9 +5,9 @@ use mathlib.Core.List.{List, [], _∷_}
 use Prim.Native.Nat.{ℕ, suc, _+_, min}
 use native.Mathlib.Omega.{arith}
 use Rattle.steps.specs.Bits.{digit}
-use Rattle.sci.specs.Line.{freshIf}
-use Rattle.sci.specs.Account.{most, more}
-use Rattle.sci.specs.Overrun.{Mark, frameLost, wordCame, deliveryMarks, openRun}
+use Rattle.sci.specs.claims.Line.{freshIf}
+use Rattle.sci.specs.model.Account.{most, more}
+use Rattle.sci.specs.claims.Overrun.{Mark, frameLost, wordCame, deliveryMarks, openRun}
 use Rattle.sci.specs.declared.account.Account.{Account}
 use Rattle.sci.proofs.Tallies.{Tally, tally, Rising}
 

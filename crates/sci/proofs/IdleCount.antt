@@ -7,11 +7,11 @@ use Prim.Native.Nat.{ℕ, suc, _+_, _<_, min}
 use native.Mathlib.Omega.{arith}
 use lib.Dec.{eqb, ltb}
 use borrow.Author.Tests.{eqb-true, eqb-false, eq-eqb, ne-eqb, lt-ltb, ltb-true}
-use Rattle.sci.specs.Control.{ILT, M, bitsOf, frameSamples}
-use Rattle.sci.specs.Receiver.{startState, idleCount, outcome, receiverAfter, received}
-use Rattle.sci.specs.Line.{Op, sample, read, act, acts}
-use Rattle.sci.specs.Link.{samplesOf}
-use Rattle.sci.specs.ReceiverClauses.{onesAtEnd, OnesCounted}
+use Rattle.sci.specs.model.Control.{ILT, M, bitsOf, frameSamples}
+use Rattle.sci.specs.model.Receiver.{startState, idleCount, outcome, receiverAfter, received}
+use Rattle.sci.specs.claims.Line.{Op, sample, read, act, acts}
+use Rattle.sci.specs.claims.Link.{samplesOf}
+use Rattle.sci.specs.claims.ReceiverClauses.{onesAtEnd, OnesCounted}
 use Rattle.sci.specs.declared.receiver.Received.{Received}
 
 -- The count gets to its limit exactly if it was below it and now is there.

@@ -10,12 +10,12 @@ use lib.Dec.{eqb}
 use lib.ListN.{length, replicate}
 use lib.Pow.{pow-pos}
 use borrow.Author.Tests.{eq-eqb, ne-eqb, eqb-true, eqb-false}
-use Rattle.sci.specs.Flags.{TC, TDRE}
-use Rattle.sci.specs.Status.{has}
-use Rattle.sci.specs.Control.{M, bitsOf, frameSamples}
-use Rattle.sci.specs.Transmitter.{runs, level, preambleBits, beginsPreamble, sent}
-use Rattle.sci.specs.Link.{Around, sentAround, shown}
-use Rattle.sci.specs.TransmitterClauses.{frameStarts, sentAll, EachLasts, PreambleOnes, TransmitterClauses}
+use Rattle.sci.specs.model.Flags.{TC, TDRE}
+use Rattle.sci.specs.model.Status.{has}
+use Rattle.sci.specs.model.Control.{M, bitsOf, frameSamples}
+use Rattle.sci.specs.model.Transmitter.{runs, level, preambleBits, beginsPreamble, sent}
+use Rattle.sci.specs.claims.Link.{Around, sentAround, shown}
+use Rattle.sci.specs.claims.TransmitterClauses.{frameStarts, sentAll, EachLasts, PreambleOnes, TransmitterClauses}
 use Rattle.sci.specs.declared.status.Status.{Status}
 use Rattle.sci.specs.declared.transmitter.Transmitter.{Transmitter}
 use Rattle.sci.proofs.Sending.{no-preamble, no-frame}

@@ -3,12 +3,12 @@ use mathlib.Core.Path.{_≡_, refl, ap, sym, subst, _∙_}
 use mathlib.Core.Bool.{Bool, true, false}
 use mathlib.Core.List.{List, [], _∷_, _++_}
 use Prim.Native.Nat.{_≤_}
-use Rattle.sci.specs.Control.{RE, settings}
-use Rattle.sci.specs.Line.{shown, noFlag, Ones, samplesIn, resyncSamples}
-use Rattle.sci.specs.Serial.{resetSci}
-use Rattle.sci.specs.History.{Step, reads, step, run, ops, watched, Unbroken}
-use Rattle.sci.specs.Overrun.{log, Overrun}
-use Rattle.sci.specs.Demand3.{Recovers, Compared}
+use Rattle.sci.specs.model.Control.{RE, settings}
+use Rattle.sci.specs.claims.Line.{shown, noFlag, Ones, samplesIn, resyncSamples}
+use Rattle.sci.specs.model.Serial.{resetSci}
+use Rattle.sci.specs.claims.History.{Step, reads, step, run, ops, watched, Unbroken}
+use Rattle.sci.specs.claims.Overrun.{log, Overrun}
+use Rattle.sci.specs.claims.Demand3.{Recovers, Compared}
 use Rattle.sci.specs.declared.serial.Sci.{Sci}
 use Rattle.sci.proofs.History.{run-append}
 use Rattle.sci.proofs.Follow.{run-sccr1}

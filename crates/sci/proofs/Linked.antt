@@ -8,15 +8,15 @@ use native.Mathlib.Omega.{arith}
 use lib.Dec.{eqb}
 use lib.ListN.{length, take, drop, getD, length-append, List·getD-append}
 use lib.Seq.{drop-cons, length-take-le, getD-take, getD-append-seam}
-use Rattle.sci.specs.Flags.{IDLE, RDRF}
-use Rattle.sci.specs.Status.{has}
-use Rattle.sci.specs.Control.{PT, PE, M, bitsOf, frameSamples, settings}
-use Rattle.sci.specs.Bits.{parityBit}
-use Rattle.sci.specs.Framer.{ends, frameOf}
-use Rattle.sci.specs.Transmitter.{dataSent, beginsFrame, sent}
-use Rattle.sci.specs.Levels.{lowBits, value, frameLevels, endSample}
-use Rattle.sci.specs.Line.{Op, sample, read, act, acts}
-use Rattle.sci.specs.Link.{FramesHeard, Around, sentAround, shown, FramesShown, FramesBegin, ParityRight, dataBits, samplesOf, NoError, Ready, Delivered, Linked}
+use Rattle.sci.specs.model.Flags.{IDLE, RDRF}
+use Rattle.sci.specs.model.Status.{has}
+use Rattle.sci.specs.model.Control.{PT, PE, M, bitsOf, frameSamples, settings}
+use Rattle.sci.specs.model.Bits.{parityBit}
+use Rattle.sci.specs.model.Framer.{ends, frameOf}
+use Rattle.sci.specs.model.Transmitter.{dataSent, beginsFrame, sent}
+use Rattle.sci.specs.claims.Levels.{lowBits, value, frameLevels, endSample}
+use Rattle.sci.specs.claims.Line.{Op, sample, read, act, acts}
+use Rattle.sci.specs.claims.Link.{FramesHeard, Around, sentAround, shown, FramesShown, FramesBegin, ParityRight, dataBits, samplesOf, NoError, Ready, Delivered, Linked}
 use Rattle.sci.specs.declared.framer.Framer.{Framer}
 use Rattle.sci.specs.declared.status.Status.{Status}
 use Rattle.sci.specs.declared.receiver.Received.{Received}

@@ -3,10 +3,10 @@ use mathlib.Core.Path.{_≡_, refl, sym, _∙_}
 use mathlib.Core.Bool.{Bool, true, false, not, _&&_, _||_, false≢true}
 use lib.Dec.{ltb}
 use Prim.Native.Nat.{ℕ}
-use Rattle.sci.specs.Flags.{receiveFlags, contains, common}
-use Rattle.sci.specs.Members.{member}
-use Rattle.sci.specs.Status.{raise, raiseIf, fall, fallIf, markSeen, fallSeen}
-use Rattle.sci.specs.Receiver.{raised, entered, statusAfter}
+use Rattle.sci.specs.model.Flags.{receiveFlags, contains, common}
+use Rattle.sci.specs.claims.Members.{member}
+use Rattle.sci.specs.model.Status.{raise, raiseIf, fall, fallIf, markSeen, fallSeen}
+use Rattle.sci.specs.model.Receiver.{raised, entered, statusAfter}
 use Rattle.sci.specs.declared.flags.Flags.{Flags}
 use Rattle.sci.specs.declared.status.Status.{Status}
 use Rattle.sci.specs.declared.framer.Frame.{Frame}

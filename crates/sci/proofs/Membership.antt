@@ -10,8 +10,8 @@ use lib.Pow.{pow-pos}
 use borrow.Author.Tests.{eq-eqb, ne-eqb, eqb-true}
 use lib.Bits.{bitAnd, bitOr, and-shr, and-mod, and-step, and-le-l, and-high, or-shr, or-mod}
 use Rattle.steps.specs.Bits.{bit}
-use Rattle.sci.specs.Flags.{flag, insert, contains, without, common}
-use Rattle.sci.specs.Members.{member, Membership}
+use Rattle.sci.specs.model.Flags.{flag, insert, contains, without, common}
+use Rattle.sci.specs.claims.Members.{member, Membership}
 use Rattle.sci.specs.declared.flags.Flags.{Flags}
 
 or-digit : (d e : ℕ) → d < 2 → e < 2 → eqb (bitOr d e) 1 ≡ eqb d 1 || eqb e 1

@@ -11,9 +11,9 @@ use Rattle.steps.specs.Bits.{digit}
 use lib.Dec.{eqb, leb, ltb}
 use lib.ListN.{length, take}
 use borrow.Author.Tests.{lt-ltb, le-ltb, le-leb, lt-leb, eq-eqb, ne-eqb, eqb-true, eqb-false}
-use Rattle.sci.specs.Framer.{searching, begun, begins, searched, startBit, dataBit, stopBit, inBit, collected, nextRt, fixed, lastBit, afterOne, nearThis, earlyFall, lateFall, adjusts, adjusted, framed}
-use Rattle.sci.specs.Levels.{lowBits, framerAfter}
-use Rattle.sci.specs.Moves.{rt1With, Falls, Rule, LastDecided, lasting, Moves}
+use Rattle.sci.specs.model.Framer.{searching, begun, begins, searched, startBit, dataBit, stopBit, inBit, collected, nextRt, fixed, lastBit, afterOne, nearThis, earlyFall, lateFall, adjusts, adjusted, framed}
+use Rattle.sci.specs.claims.Levels.{lowBits, framerAfter}
+use Rattle.sci.specs.claims.Moves.{rt1With, Falls, Rule, LastDecided, lasting, Moves}
 use Rattle.sci.specs.declared.framer.Framer.{Framer}
 use Rattle.sci.proofs.Frames.{by-cond, adjusting}
 use Rattle.sci.proofs.Walk.{unmoved}

@@ -5,19 +5,19 @@ use mathlib.Core.List.{[], _++_}
 use mathlib.Core.Option.{Option, none as nothing, some}
 use Prim.Native.Nat.{ℕ, _%_}
 use lib.Dec.{ltb}
-use Rattle.sci.specs.Flags.{OR, receiveFlags}
-use Rattle.sci.specs.Members.{member}
-use Rattle.sci.specs.Status.{has, markSeen, fallSeen}
-use Rattle.sci.specs.Control.{RE}
-use Rattle.sci.specs.Receiver.{outcome, received}
-use Rattle.sci.specs.ReceiverClauses.{rises}
-use Rattle.sci.specs.Transmitter.{sent}
-use Rattle.sci.specs.Line.{read, readStatus, delivers}
-use Rattle.sci.specs.Alike.{Same}
-use Rattle.sci.specs.Serial.{active, due}
-use Rattle.sci.specs.History.{Step, reset, clock, reads, writesSccr0, writesSccr1, writesScdr, step, receiving}
-use Rattle.sci.specs.Overrun.{sampleMarks, lookMarks, deliveryMarks, stepMarks}
-use Rattle.sci.specs.Balance.{risesIn}
+use Rattle.sci.specs.model.Flags.{OR, receiveFlags}
+use Rattle.sci.specs.claims.Members.{member}
+use Rattle.sci.specs.model.Status.{has, markSeen, fallSeen}
+use Rattle.sci.specs.model.Control.{RE}
+use Rattle.sci.specs.model.Receiver.{outcome, received}
+use Rattle.sci.specs.claims.ReceiverClauses.{rises}
+use Rattle.sci.specs.model.Transmitter.{sent}
+use Rattle.sci.specs.claims.Line.{read, readStatus, delivers}
+use Rattle.sci.specs.claims.Alike.{Same}
+use Rattle.sci.specs.model.Serial.{active, due}
+use Rattle.sci.specs.claims.History.{Step, reset, clock, reads, writesSccr0, writesSccr1, writesScdr, step, receiving}
+use Rattle.sci.specs.claims.Overrun.{sampleMarks, lookMarks, deliveryMarks, stepMarks}
+use Rattle.sci.specs.claims.Balance.{risesIn}
 use Rattle.sci.specs.declared.status.Status.{Status}
 use Rattle.sci.specs.declared.receiver.Outcome.{Outcome}
 use Rattle.sci.specs.declared.serial.Sci.{Sci}

@@ -6,17 +6,17 @@ use mathlib.Core.Option.{Option, none, some}
 use Prim.Native.Nat.{ℕ, _%_}
 use lib.Dec.{ltb}
 use Rattle.steps.specs.Bits.{bit}
-use Rattle.sci.specs.Flags.{PF, FE, NF, OR, RDRF, receiveFlags}
-use Rattle.sci.specs.Members.{member}
-use Rattle.sci.specs.Status.{has, raiseIf, markSeen, fallSeen}
-use Rattle.sci.specs.Control.{RE}
-use Rattle.sci.specs.Receiver.{full, outcome, raised, entered, statusAfter, received}
-use Rattle.sci.specs.Transmitter.{sent}
-use Rattle.sci.specs.Line.{read, readStatus, delivers}
-use Rattle.sci.specs.Alike.{Same}
-use Rattle.sci.specs.Serial.{resetSci, active, due}
-use Rattle.sci.specs.History.{Step, reset, clock, reads, writesSccr0, writesSccr1, writesScdr, step, receiving}
-use Rattle.sci.specs.Overrun.{Mark, frameLost, wordCame, sampleMarks, lookMarks, deliveryMarks, stepMarks, log, Overrun}
+use Rattle.sci.specs.model.Flags.{PF, FE, NF, OR, RDRF, receiveFlags}
+use Rattle.sci.specs.claims.Members.{member}
+use Rattle.sci.specs.model.Status.{has, raiseIf, markSeen, fallSeen}
+use Rattle.sci.specs.model.Control.{RE}
+use Rattle.sci.specs.model.Receiver.{full, outcome, raised, entered, statusAfter, received}
+use Rattle.sci.specs.model.Transmitter.{sent}
+use Rattle.sci.specs.claims.Line.{read, readStatus, delivers}
+use Rattle.sci.specs.claims.Alike.{Same}
+use Rattle.sci.specs.model.Serial.{resetSci, active, due}
+use Rattle.sci.specs.claims.History.{Step, reset, clock, reads, writesSccr0, writesSccr1, writesScdr, step, receiving}
+use Rattle.sci.specs.claims.Overrun.{Mark, frameLost, wordCame, sampleMarks, lookMarks, deliveryMarks, stepMarks, log, Overrun}
 use Rattle.sci.specs.declared.status.Status.{Status}
 use Rattle.sci.specs.declared.framer.Frame.{Frame}
 use Rattle.sci.specs.declared.receiver.Receiver.{Receiver}

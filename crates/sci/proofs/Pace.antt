@@ -12,10 +12,10 @@ use lib.Dec.{eqb, leb}
 use lib.ListN.{replicate, length, getD, length-replicate}
 use lib.Seq.{getD-append-add}
 use borrow.Author.Tests.{not-true, eqb-false}
-use Rattle.sci.specs.Control.{SCBR, M, bitsOf, frameSamples}
-use Rattle.sci.specs.Serial.{due, clocked}
-use Rattle.sci.specs.Levels.{frameLevels, endSample}
-use Rattle.sci.specs.Wire.{Access, accessed}
+use Rattle.sci.specs.model.Control.{SCBR, M, bitsOf, frameSamples}
+use Rattle.sci.specs.model.Serial.{due, clocked}
+use Rattle.sci.specs.claims.Levels.{frameLevels, endSample}
+use Rattle.sci.specs.claims.Wire.{Access, accessed}
 use Rattle.sci.specs.declared.serial.Sci.{Sci}
 use Rattle.sci.proofs.Membership.{and-left}
 use Rattle.sci.proofs.Stages.{Stage}

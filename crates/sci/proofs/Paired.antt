@@ -7,12 +7,12 @@ use mathlib.Core.List.{List, [], _∷_}
 use mathlib.Core.Bool.{Bool, true, false, _&&_}
 use native.Mathlib.Omega.{arith}
 use lib.ListN.{length, getD}
-use Rattle.sci.specs.Control.{PT, PE, M, bitsOf}
-use Rattle.sci.specs.Bits.{parityBit}
-use Rattle.sci.specs.Serial.{clocked, txd}
-use Rattle.sci.specs.Levels.{lowBits, value, frameLevels, endSample}
-use Rattle.sci.specs.Link.{Delivered}
-use Rattle.sci.specs.Wire.{Wired, Access, readStatus, readData, writeData, writeControl, accessed, Same, Unchanged, Step, clock, atSender, atReceiver, step, steps, clocksIn, readsOf, hearing}
+use Rattle.sci.specs.model.Control.{PT, PE, M, bitsOf}
+use Rattle.sci.specs.model.Bits.{parityBit}
+use Rattle.sci.specs.model.Serial.{clocked, txd}
+use Rattle.sci.specs.claims.Levels.{lowBits, value, frameLevels, endSample}
+use Rattle.sci.specs.claims.Link.{Delivered}
+use Rattle.sci.specs.claims.Wire.{Wired, Access, readStatus, readData, writeData, writeControl, accessed, Same, Unchanged, Step, clock, atSender, atReceiver, step, steps, clocksIn, readsOf, hearing}
 use Rattle.sci.proofs.Sending.{shows, low-length}
 use Rattle.sci.proofs.Stages.{Stage, waiting, free, stages}
 use Rattle.sci.proofs.Going.{Rested}

@@ -9,10 +9,10 @@ use native.Mathlib.Nat.{mod-mod, add-mod-right}
 use lib.Count.{ones, ones-step}
 use lib.Dec.{eqb}
 use Rattle.steps.specs.Bits.{digit}
-use Rattle.sci.specs.Bits.{parityBit}
-use Rattle.sci.specs.Transmitter.{dataSent}
-use Rattle.sci.specs.Levels.{lowBits}
-use Rattle.sci.specs.TransmitterClauses.{onesAmong, ParitySent}
+use Rattle.sci.specs.model.Bits.{parityBit}
+use Rattle.sci.specs.model.Transmitter.{dataSent}
+use Rattle.sci.specs.claims.Levels.{lowBits}
+use Rattle.sci.specs.claims.TransmitterClauses.{onesAmong, ParitySent}
 use Rattle.sci.proofs.Sending.{digit-eqb, mod-suc, parity-right, sent-fits}
 
 among-low : (n w : ℕ) → onesAmong (lowBits n w) ≡ ones (w % 2 ^ n)

@@ -9,7 +9,7 @@ use lib.Count.{ones, ones-cat}
 use lib.Dec.{eqb}
 use lib.ListN.{getD}
 use borrow.Author.Tests.{eqb-true, eqb-false, eq-eqb, ne-eqb}
-use Rattle.sci.specs.Bits.{odd}
+use Rattle.sci.specs.model.Bits.{odd}
 
 -- n entries by a rule, from place i on.
 abbrev pub entries : (ℕ → ℕ) → ℕ → ℕ → List ℕ

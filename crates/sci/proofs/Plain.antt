@@ -6,15 +6,15 @@ use native.Mathlib.Omega.{arith}
 use lib.Dec.{eqb, leb}
 use borrow.Author.Tests.{ne-eqb, eqb-false, leb-true, not-true}
 use Rattle.steps.specs.Bits.{bit}
-use Rattle.sci.specs.Control.{M, TIE, TCIE, RIE, ILIE, RE, bitsOf}
-use Rattle.sci.specs.Framer.{begins, abandons, ends, searched, atRt, startBit, dataBit, stopBit, inBit, nextRt, fixed, adjusts, framed}
-use Rattle.sci.specs.Flags.{OR, IDLE, RAF}
-use Rattle.sci.specs.Status.{raiseIf, fallIf}
-use Rattle.sci.specs.Receiver.{three, reaches, outcome, entered, statusAfter, receiverAfter, received}
-use Rattle.sci.specs.Account.{accounted}
-use Rattle.sci.specs.Transmitter.{beginsPreamble, beginsFrame, ends as ended, sent}
-use Rattle.sci.specs.Serial.{afterReceived, heard, afterSent, sampled, asks}
-use Rattle.sci.specs.Plain.{busy, rests, rested, plain, passed, listened, turns, shifted}
+use Rattle.sci.specs.model.Control.{M, TIE, TCIE, RIE, ILIE, RE, bitsOf}
+use Rattle.sci.specs.model.Framer.{begins, abandons, ends, searched, atRt, startBit, dataBit, stopBit, inBit, nextRt, fixed, adjusts, framed}
+use Rattle.sci.specs.model.Flags.{OR, IDLE, RAF}
+use Rattle.sci.specs.model.Status.{raiseIf, fallIf}
+use Rattle.sci.specs.model.Receiver.{three, reaches, outcome, entered, statusAfter, receiverAfter, received}
+use Rattle.sci.specs.model.Account.{accounted}
+use Rattle.sci.specs.model.Transmitter.{beginsPreamble, beginsFrame, ends as ended, sent}
+use Rattle.sci.specs.model.Serial.{afterReceived, heard, afterSent, sampled, asks}
+use Rattle.sci.specs.quick.Plain.{busy, rests, rested, plain, passed, listened, turns, shifted}
 use Rattle.sci.specs.declared.status.Status.{Status}
 use Rattle.sci.specs.declared.framer.Framer.{Framer}
 use Rattle.sci.specs.declared.framer.Frame.{Frame}

@@ -5,12 +5,12 @@ use mathlib.Core.List.{List, [], _∷_}
 use Prim.Native.Nat.{ℕ, zero, suc, _+_, _≤_, _<_}
 use native.Mathlib.Omega.{arith}
 use native.Mathlib.Decide.{decLt}
-use Rattle.sci.specs.Control.{M, bitsOf, frameSamples}
-use Rattle.sci.specs.Framer.{searching, ends, framed}
-use Rattle.sci.specs.Receiver.{three, idleCount, outcome, receiverAfter, received}
-use Rattle.sci.specs.Line.{Op, sample, read, act, acts, Ones, samplesIn, resyncSamples}
-use Rattle.sci.specs.Sound.{span, togo, Sound}
-use Rattle.sci.specs.Alike.{line}
+use Rattle.sci.specs.model.Control.{M, bitsOf, frameSamples}
+use Rattle.sci.specs.model.Framer.{searching, ends, framed}
+use Rattle.sci.specs.model.Receiver.{three, idleCount, outcome, receiverAfter, received}
+use Rattle.sci.specs.claims.Line.{Op, sample, read, act, acts, Ones, samplesIn, resyncSamples}
+use Rattle.sci.specs.claims.Sound.{span, togo, Sound}
+use Rattle.sci.specs.claims.Alike.{line}
 use Rattle.sci.specs.declared.framer.Framer.{Framer}
 use Rattle.sci.specs.declared.receiver.Receiver.{Receiver}
 use Rattle.sci.specs.declared.receiver.Received.{Received}

@@ -7,10 +7,10 @@ use lib.Dec.{eqb, leb}
 use borrow.Author.Tests.{le-leb, lt-leb}
 use Rattle.steps.specs.Iterate.{iterate}
 use Rattle.steps.proofs.Iterate.{iterate-add, iterate-fixed}
-use Rattle.sci.specs.Control.{SCBR, RE}
-use Rattle.sci.specs.Transmitter.{sent}
-use Rattle.sci.specs.Serial.{active, heard, afterSent, sampled, clocked}
-use Rattle.sci.specs.Quiet.{untilDue, quiet, withCount, skipped}
+use Rattle.sci.specs.model.Control.{SCBR, RE}
+use Rattle.sci.specs.model.Transmitter.{sent}
+use Rattle.sci.specs.model.Serial.{active, heard, afterSent, sampled, clocked}
+use Rattle.sci.specs.quick.Quiet.{untilDue, quiet, withCount, skipped}
 use Rattle.sci.specs.declared.serial.Sci.{Sci}
 
 -- The test of a period against a count, before a sample and at it.

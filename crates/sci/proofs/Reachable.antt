@@ -7,16 +7,16 @@ use native.Mathlib.Omega.{arith}
 use lib.Dec.{eqb}
 use borrow.Author.Tests.{eqb-true}
 use Rattle.steps.specs.Bits.{merge}
-use Rattle.sci.specs.Flags.{RAF, transmitFlags}
-use Rattle.sci.specs.Status.{fall, fallSeen}
-use Rattle.sci.specs.Control.{TE, RE, RWU, M, bitsOf, settings, sccr0Bits, sccr1Bits}
-use Rattle.sci.specs.Receiver.{startState}
-use Rattle.sci.specs.Transmitter.{runs, sent}
-use Rattle.sci.specs.Line.{sample, read, act, readStatus}
-use Rattle.sci.specs.Sound.{Sound}
-use Rattle.sci.specs.Alike.{Same}
-use Rattle.sci.specs.Serial.{resetSci, active, due, heard, afterSent, sampled, counted, prescaled, clocked, sccr1Word, withStatus, dataWritten, wroteSccr0, stopped, withSleep, withSccr1, wroteSccr1, sccr0Guarded, sccr1Guarded}
-use Rattle.sci.specs.History.{Step, reset, clock, reads, writesSccr0, writesSccr1, writesScdr, step, run, receiving}
+use Rattle.sci.specs.model.Flags.{RAF, transmitFlags}
+use Rattle.sci.specs.model.Status.{fall, fallSeen}
+use Rattle.sci.specs.model.Control.{TE, RE, RWU, M, bitsOf, settings, sccr0Bits, sccr1Bits}
+use Rattle.sci.specs.model.Receiver.{startState}
+use Rattle.sci.specs.model.Transmitter.{runs, sent}
+use Rattle.sci.specs.claims.Line.{sample, read, act, readStatus}
+use Rattle.sci.specs.claims.Sound.{Sound}
+use Rattle.sci.specs.claims.Alike.{Same}
+use Rattle.sci.specs.model.Serial.{resetSci, active, due, heard, afterSent, sampled, counted, prescaled, clocked, sccr1Word, withStatus, dataWritten, wroteSccr0, stopped, withSleep, withSccr1, wroteSccr1, sccr0Guarded, sccr1Guarded}
+use Rattle.sci.specs.claims.History.{Step, reset, clock, reads, writesSccr0, writesSccr1, writesScdr, step, run, receiving}
 use Rattle.sci.specs.declared.status.Status.{Status}
 use Rattle.sci.specs.declared.receiver.Receiver.{Receiver}
 use Rattle.sci.specs.declared.receiver.Received.{Received}

@@ -7,14 +7,14 @@ use native.Mathlib.Omega.{arith}
 use lib.Count.{ones}
 use lib.Dec.{eqb}
 use Rattle.steps.specs.Bits.{digit}
-use Rattle.sci.specs.Flags.{PF, FE, OR, IDLE, RAF, RDRF, receiveFlags}
-use Rattle.sci.specs.Members.{member}
-use Rattle.sci.specs.Status.{has}
-use Rattle.sci.specs.Control.{ILT, PT, PE, M, WAKE, bitsOf, frameSamples}
-use Rattle.sci.specs.Bits.{parityBit}
-use Rattle.sci.specs.Framer.{ends, frameOf, collected, framed}
-use Rattle.sci.specs.Receiver.{three, addressed, outcome, statusAfter, receiverAfter, received}
-use Rattle.sci.specs.ReceiverClauses.{startBegins, startAbandoned, frameEnds, idleReached, rises, lastBit, frameTaken, readOne, SampleClauses, ReceiverClauses}
+use Rattle.sci.specs.model.Flags.{PF, FE, OR, IDLE, RAF, RDRF, receiveFlags}
+use Rattle.sci.specs.claims.Members.{member}
+use Rattle.sci.specs.model.Status.{has}
+use Rattle.sci.specs.model.Control.{ILT, PT, PE, M, WAKE, bitsOf, frameSamples}
+use Rattle.sci.specs.model.Bits.{parityBit}
+use Rattle.sci.specs.model.Framer.{ends, frameOf, collected, framed}
+use Rattle.sci.specs.model.Receiver.{three, addressed, outcome, statusAfter, receiverAfter, received}
+use Rattle.sci.specs.claims.ReceiverClauses.{startBegins, startAbandoned, frameEnds, idleReached, rises, lastBit, frameTaken, readOne, SampleClauses, ReceiverClauses}
 use Rattle.sci.specs.declared.status.Status.{Status}
 use Rattle.sci.specs.declared.framer.Framer.{Framer}
 use Rattle.sci.specs.declared.receiver.Receiver.{Receiver}

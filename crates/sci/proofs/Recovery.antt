@@ -5,15 +5,15 @@ use mathlib.Core.List.{List, [], _∷_}
 use Prim.Native.Nat.{ℕ}
 use lib.Dec.{eqb}
 use Rattle.steps.specs.Bits.{merge}
-use Rattle.sci.specs.Flags.{RAF}
-use Rattle.sci.specs.Control.{RE, RWU, sccr0Bits}
-use Rattle.sci.specs.Receiver.{startState}
-use Rattle.sci.specs.Line.{Op, read, act, acts, watch}
-use Rattle.sci.specs.Alike.{Alike}
-use Rattle.sci.specs.Resync.{Started}
-use Rattle.sci.specs.Serial.{resetSci, active, due, sccr1Word, dataWritten, wroteSccr0, wroteSccr1, sccr0Guarded, sccr1Guarded, stopped, withSleep, withSccr1}
-use Rattle.sci.specs.History.{Step, reset, clock, reads, writesSccr0, writesSccr1, writesScdr, step, run, receiving, ops}
-use Rattle.sci.specs.Demand3.{Off, Compared, Recovered}
+use Rattle.sci.specs.model.Flags.{RAF}
+use Rattle.sci.specs.model.Control.{RE, RWU, sccr0Bits}
+use Rattle.sci.specs.model.Receiver.{startState}
+use Rattle.sci.specs.claims.Line.{Op, read, act, acts, watch}
+use Rattle.sci.specs.claims.Alike.{Alike}
+use Rattle.sci.specs.claims.Resync.{Started}
+use Rattle.sci.specs.model.Serial.{resetSci, active, due, sccr1Word, dataWritten, wroteSccr0, wroteSccr1, sccr0Guarded, sccr1Guarded, stopped, withSleep, withSccr1}
+use Rattle.sci.specs.claims.History.{Step, reset, clock, reads, writesSccr0, writesSccr1, writesScdr, step, run, receiving, ops}
+use Rattle.sci.specs.claims.Demand3.{Off, Compared, Recovered}
 use Rattle.sci.specs.declared.receiver.Receiver.{Receiver}
 use Rattle.sci.specs.declared.receiver.Received.{Received}
 use Rattle.sci.specs.declared.serial.Sci.{Sci}

@@ -3,9 +3,9 @@
 use mathlib.Core.Path.{_≡_, refl, ap}
 use mathlib.Core.Bool.{Bool, true, false, cond}
 use Rattle.steps.specs.Bits.{merge}
-use Rattle.sci.specs.Control.{RE, settings}
-use Rattle.sci.specs.Serial.{active, due, prescaled, clocked, sccr1Word, withSccr1, stopped, wroteSccr1}
-use Rattle.sci.specs.Wire.{Access, readStatus, readData, writeData, writeControl, accessed}
+use Rattle.sci.specs.model.Control.{RE, settings}
+use Rattle.sci.specs.model.Serial.{active, due, prescaled, clocked, sccr1Word, withSccr1, stopped, wroteSccr1}
+use Rattle.sci.specs.claims.Wire.{Access, readStatus, readData, writeData, writeControl, accessed}
 use Rattle.sci.specs.declared.serial.Sci.{Sci}
 use Rattle.sci.proofs.Sampling.{sample-leaves}
 

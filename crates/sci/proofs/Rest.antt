@@ -8,15 +8,15 @@ use lib.Dec.{eqb}
 use borrow.Author.Tests.{eqb-true, eqb-false, ne-eqb, not-true}
 use Rattle.steps.specs.Iterate.{iterate}
 use Rattle.steps.proofs.Iterate.{iterate-period}
-use Rattle.sci.specs.Flags.{TDRE}
-use Rattle.sci.specs.Status.{has}
-use Rattle.sci.specs.Control.{SCBR, TE, RE, M, bitsOf, frameSamples}
-use Rattle.sci.specs.Receiver.{three, reaches, idleCount, outcome, received}
-use Rattle.sci.specs.Account.{counting}
-use Rattle.sci.specs.Transmitter.{sent}
-use Rattle.sci.specs.Serial.{active, heard, afterReceived, afterSent, sampled, clocked}
-use Rattle.sci.specs.Plain.{plain, passed, rested, turns, shifted, rests as framerRests}
-use Rattle.sci.specs.Quiet.{quiet, withCount, senderRests, receiverRests, rests, shortened}
+use Rattle.sci.specs.model.Flags.{TDRE}
+use Rattle.sci.specs.model.Status.{has}
+use Rattle.sci.specs.model.Control.{SCBR, TE, RE, M, bitsOf, frameSamples}
+use Rattle.sci.specs.model.Receiver.{three, reaches, idleCount, outcome, received}
+use Rattle.sci.specs.model.Account.{counting}
+use Rattle.sci.specs.model.Transmitter.{sent}
+use Rattle.sci.specs.model.Serial.{active, heard, afterReceived, afterSent, sampled, clocked}
+use Rattle.sci.specs.quick.Plain.{plain, passed, rested, turns, shifted, rests as framerRests}
+use Rattle.sci.specs.quick.Quiet.{quiet, withCount, senderRests, receiverRests, rests, shortened}
 use Rattle.sci.specs.declared.account.Account.{Account}
 use Rattle.sci.specs.declared.framer.Framer.{Framer}
 use Rattle.sci.specs.declared.status.Status.{Status}

@@ -5,17 +5,17 @@ use mathlib.Core.Bool.{Bool, true, false, not, _&&_, _||_, and-false, true≢fal
 use mathlib.Core.List.{List, [], _∷_}
 use Prim.Native.Nat.{ℕ, _+_, _≤_}
 use native.Mathlib.Omega.{arith}
-use Rattle.sci.specs.Flags.{flag, receiveFlags, contains, common, RDRF, RAF}
-use Rattle.sci.specs.Members.{member}
-use Rattle.sci.specs.Status.{has, raiseIf, fall, markSeen, fallSeen}
-use Rattle.sci.specs.Control.{PT, PE, M, bitsOf, settings}
-use Rattle.sci.specs.Framer.{searching, ends, frameOf, fixed, framed}
-use Rattle.sci.specs.Bits.{parityBit}
-use Rattle.sci.specs.Receiver.{three, takes, full, outcome, entered, statusAfter, receiverAfter, received}
-use Rattle.sci.specs.Line.{Op, sample, read, act, acts, readStatus, shown, noFlag, Ones, samplesIn, resyncSamples}
-use Rattle.sci.specs.Sound.{Sound}
-use Rattle.sci.specs.Alike.{Same, line, Alike}
-use Rattle.sci.specs.Resync.{Started, Quiet, Waited, Resynchronised}
+use Rattle.sci.specs.model.Flags.{flag, receiveFlags, contains, common, RDRF, RAF}
+use Rattle.sci.specs.claims.Members.{member}
+use Rattle.sci.specs.model.Status.{has, raiseIf, fall, markSeen, fallSeen}
+use Rattle.sci.specs.model.Control.{PT, PE, M, bitsOf, settings}
+use Rattle.sci.specs.model.Framer.{searching, ends, frameOf, fixed, framed}
+use Rattle.sci.specs.model.Bits.{parityBit}
+use Rattle.sci.specs.model.Receiver.{three, takes, full, outcome, entered, statusAfter, receiverAfter, received}
+use Rattle.sci.specs.claims.Line.{Op, sample, read, act, acts, readStatus, shown, noFlag, Ones, samplesIn, resyncSamples}
+use Rattle.sci.specs.claims.Sound.{Sound}
+use Rattle.sci.specs.claims.Alike.{Same, line, Alike}
+use Rattle.sci.specs.claims.Resync.{Started, Quiet, Waited, Resynchronised}
 use Rattle.sci.specs.declared.status.Status.{Status}
 use Rattle.sci.specs.declared.framer.Frame.{Frame}
 use Rattle.sci.specs.declared.framer.Framer.{Framer}

@@ -4,10 +4,10 @@ use mathlib.Core.Path.{_≡_, refl, ap, sym, _∙_}
 use mathlib.Core.Bool.{Bool, true, false, not, _&&_, _||_, and-true, and-false, or-false}
 use Prim.Native.Nat.{ℕ}
 use lib.Dec.{ltb}
-use Rattle.sci.specs.Flags.{PF, FE, NF, OR, IDLE, RAF, RDRF, receiveFlags}
-use Rattle.sci.specs.Members.{member}
-use Rattle.sci.specs.Status.{raise, raiseIf}
-use Rattle.sci.specs.Receiver.{raised, entered, statusAfter}
+use Rattle.sci.specs.model.Flags.{PF, FE, NF, OR, IDLE, RAF, RDRF, receiveFlags}
+use Rattle.sci.specs.claims.Members.{member}
+use Rattle.sci.specs.model.Status.{raise, raiseIf}
+use Rattle.sci.specs.model.Receiver.{raised, entered, statusAfter}
 use Rattle.sci.specs.declared.status.Status.{Status}
 use Rattle.sci.specs.declared.framer.Frame.{Frame}
 use Rattle.sci.specs.declared.receiver.Outcome.{Outcome}

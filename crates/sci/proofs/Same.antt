@@ -4,13 +4,13 @@ use mathlib.Core.Bool.{Bool, true, false, not, _&&_, _||_, true≢false, false�
 use lib.Dec.{ltb}
 use Prim.Native.Nat.{ℕ, _^_}
 use native.Mathlib.Nat.{zero-div}
-use Rattle.sci.specs.Flags.{flag, TC, TDRE, receiveFlags, transmitFlags, common}
-use Rattle.sci.specs.Members.{member}
-use Rattle.sci.specs.Status.{has, raise, raiseIf, fall, fallIf, markSeen, fallSeen}
-use Rattle.sci.specs.Receiver.{raised, entered, statusAfter}
-use Rattle.sci.specs.Line.{shown, looked, fetched, readStatus}
-use Rattle.sci.specs.Alike.{Same}
-use Rattle.sci.specs.Transmitter.{ends, beginsFrame, sent}
+use Rattle.sci.specs.model.Flags.{flag, TC, TDRE, receiveFlags, transmitFlags, common}
+use Rattle.sci.specs.claims.Members.{member}
+use Rattle.sci.specs.model.Status.{has, raise, raiseIf, fall, fallIf, markSeen, fallSeen}
+use Rattle.sci.specs.model.Receiver.{raised, entered, statusAfter}
+use Rattle.sci.specs.claims.Line.{shown, looked, fetched, readStatus}
+use Rattle.sci.specs.claims.Alike.{Same}
+use Rattle.sci.specs.model.Transmitter.{ends, beginsFrame, sent}
 use Rattle.sci.specs.declared.flags.Flags.{Flags}
 use Rattle.sci.specs.declared.status.Status.{Status}
 use Rattle.sci.specs.declared.framer.Frame.{Frame}

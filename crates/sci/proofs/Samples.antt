@@ -7,13 +7,13 @@ use native.Mathlib.Omega.{arith}
 use lib.Dec.{ltb}
 use borrow.Author.Tests.{ne-eqb}
 use Rattle.steps.specs.Bits.{bit}
-use Rattle.sci.specs.Flags.{PF, FE, NF, OR, IDLE, RAF, RDRF}
-use Rattle.sci.specs.Members.{member}
-use Rattle.sci.specs.Status.{raiseIf, fallIf}
-use Rattle.sci.specs.Control.{PT, PE, M, bitsOf, frameSamples}
-use Rattle.sci.specs.Bits.{parityBit}
-use Rattle.sci.specs.Framer.{ends, frameOf}
-use Rattle.sci.specs.Receiver.{full, outcome, raised, entered, statusAfter, receiverAfter, received}
+use Rattle.sci.specs.model.Flags.{PF, FE, NF, OR, IDLE, RAF, RDRF}
+use Rattle.sci.specs.claims.Members.{member}
+use Rattle.sci.specs.model.Status.{raiseIf, fallIf}
+use Rattle.sci.specs.model.Control.{PT, PE, M, bitsOf, frameSamples}
+use Rattle.sci.specs.model.Bits.{parityBit}
+use Rattle.sci.specs.model.Framer.{ends, frameOf}
+use Rattle.sci.specs.model.Receiver.{full, outcome, raised, entered, statusAfter, receiverAfter, received}
 use Rattle.sci.specs.declared.status.Status.{Status}
 use Rattle.sci.specs.declared.framer.Frame.{Frame}
 use Rattle.sci.specs.declared.receiver.Receiver.{Receiver}

@@ -6,9 +6,9 @@ use mathlib.Core.Bool.{Bool, true, false, not, _&&_, _||_, and-false, or-true}
 use native.Mathlib.Omega.{arith}
 use lib.Dec.{eqb, leb}
 use borrow.Author.Tests.{ne-eqb, le-leb, lt-leb}
-use Rattle.sci.specs.Control.{SCBR, TE, RE, frameSamples}
-use Rattle.sci.specs.Transmitter.{runs, sent}
-use Rattle.sci.specs.Serial.{active, due, heard, afterSent, sampled, counted, clocked}
+use Rattle.sci.specs.model.Control.{SCBR, TE, RE, frameSamples}
+use Rattle.sci.specs.model.Transmitter.{runs, sent}
+use Rattle.sci.specs.model.Serial.{active, due, heard, afterSent, sampled, counted, clocked}
 use Rattle.sci.specs.declared.serial.Sci.{Sci}
 use Rattle.sci.proofs.Sending.{Sending}
 

@@ -5,14 +5,14 @@ use mathlib.Core.Path.{_≡_, refl, ap, sym, subst, _∙_}
 use mathlib.Core.Bool.{Bool, true, false, not, _&&_, cond}
 use native.Mathlib.Omega.{arith}
 use Rattle.steps.specs.Bits.{merge}
-use Rattle.sci.specs.Flags.{RAF, TC, TDRE, receiveFlags, transmitFlags}
-use Rattle.sci.specs.Members.{member}
-use Rattle.sci.specs.Status.{has, raiseIf, fallIf}
-use Rattle.sci.specs.Control.{SCBR, M, TE, RE, bitsOf, frameSamples}
-use Rattle.sci.specs.Transmitter.{beginsFrame, free as free′, ends, sent}
-use Rattle.sci.specs.Serial.{active, due, heard, afterSent, sampled, counted, prescaled, clocked, sccr1Word, withSccr1, stopped, wroteSccr1}
-use Rattle.sci.specs.Link.{dataBits}
-use Rattle.sci.specs.Wire.{Access, readStatus, readData, writeData, writeControl, accessed}
+use Rattle.sci.specs.model.Flags.{RAF, TC, TDRE, receiveFlags, transmitFlags}
+use Rattle.sci.specs.claims.Members.{member}
+use Rattle.sci.specs.model.Status.{has, raiseIf, fallIf}
+use Rattle.sci.specs.model.Control.{SCBR, M, TE, RE, bitsOf, frameSamples}
+use Rattle.sci.specs.model.Transmitter.{beginsFrame, free as free′, ends, sent}
+use Rattle.sci.specs.model.Serial.{active, due, heard, afterSent, sampled, counted, prescaled, clocked, sccr1Word, withSccr1, stopped, wroteSccr1}
+use Rattle.sci.specs.claims.Link.{dataBits}
+use Rattle.sci.specs.claims.Wire.{Access, readStatus, readData, writeData, writeControl, accessed}
 use Rattle.sci.specs.declared.status.Status.{Status}
 use Rattle.sci.specs.declared.transmitter.Transmitter.{Transmitter}
 use Rattle.sci.specs.declared.serial.Sci.{Sci}

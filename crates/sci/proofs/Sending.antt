@@ -16,12 +16,12 @@ use lib.Pow.{pow-pos, shr-shr}
 use lib.Count.{ones, ones-cat}
 use borrow.Author.Tests.{ne-eqb, lt-leb, eqb-true, eqb-false, not-true}
 use Rattle.steps.specs.Bits.{digit}
-use Rattle.sci.specs.Control.{PT, PE, M, TE, bitsOf, frameSamples}
-use Rattle.sci.specs.Flags.{TDRE}
-use Rattle.sci.specs.Status.{has}
-use Rattle.sci.specs.Bits.{parityBit}
-use Rattle.sci.specs.Transmitter.{level, dataSent, frameBits, beginsPreamble, beginsFrame, free, sent}
-use Rattle.sci.specs.Levels.{lowBits, value, stretched, frameLevels}
+use Rattle.sci.specs.model.Control.{PT, PE, M, TE, bitsOf, frameSamples}
+use Rattle.sci.specs.model.Flags.{TDRE}
+use Rattle.sci.specs.model.Status.{has}
+use Rattle.sci.specs.model.Bits.{parityBit}
+use Rattle.sci.specs.model.Transmitter.{level, dataSent, frameBits, beginsPreamble, beginsFrame, free, sent}
+use Rattle.sci.specs.claims.Levels.{lowBits, value, stretched, frameLevels}
 use Rattle.sci.specs.declared.status.Status.{Status}
 use Rattle.sci.specs.declared.transmitter.Transmitter.{Transmitter}
 use Rattle.sci.proofs.Membership.{and-left, and-right}

@@ -10,15 +10,15 @@ use lib.Pow.{pow-mono}
 use borrow.Author.Tests.{eq-eqb, ne-eqb}
 use Rattle.steps.specs.Bits.{bit, merge}
 use Rattle.steps.specs.Iterate.{iterate}
-use Rattle.sci.specs.Flags.{RAF, flag}
-use Rattle.sci.specs.Members.{member}
-use Rattle.sci.specs.Status.{has, fall}
-use Rattle.sci.specs.Control.{SCBR, TE, RE, RWU, sccr0Bits, sccr1Bits}
-use Rattle.sci.specs.Transmitter.{runs}
-use Rattle.sci.specs.Serial.{active, due, sampled, prescaled, clocked, sccr1Word, scsrWord, sccr0Set, wroteSccr0, withSccr1, stopped, wroteSccr1, asks}
-use Rattle.sci.specs.Quiet.{quiet, withCount, skipped}
-use Rattle.sci.specs.Wire.{Access, readStatus, readData, writeData, writeControl, accessed}
-use Rattle.sci.specs.SerialClauses.{bitsDown, flagsDown, Mapped, Queued, Stopped, REStops, Sleeps, Restarts, Paced, sources, someSet, SerialClauses}
+use Rattle.sci.specs.model.Flags.{RAF, flag}
+use Rattle.sci.specs.claims.Members.{member}
+use Rattle.sci.specs.model.Status.{has, fall}
+use Rattle.sci.specs.model.Control.{SCBR, TE, RE, RWU, sccr0Bits, sccr1Bits}
+use Rattle.sci.specs.model.Transmitter.{runs}
+use Rattle.sci.specs.model.Serial.{active, due, sampled, prescaled, clocked, sccr1Word, scsrWord, sccr0Set, wroteSccr0, withSccr1, stopped, wroteSccr1, asks}
+use Rattle.sci.specs.quick.Quiet.{quiet, withCount, skipped}
+use Rattle.sci.specs.claims.Wire.{Access, readStatus, readData, writeData, writeControl, accessed}
+use Rattle.sci.specs.claims.SerialClauses.{bitsDown, flagsDown, Mapped, Queued, Stopped, REStops, Sleeps, Restarts, Paced, sources, someSet, SerialClauses}
 use Rattle.sci.specs.declared.serial.Sci.{Sci}
 use Rattle.sci.proofs.Flagged.{isSet, has-flag, set-fall}
 use Rattle.sci.proofs.Quiet.{skips, plays}

@@ -4,9 +4,9 @@ use mathlib.Core.Bool.{Bool}
 use Prim.Native.Nat.{ℕ, _/_, _%_, _^_}
 use native.Mathlib.Omega.{arith}
 use lib.Dec.{eqb}
-use Rattle.sci.specs.Control.{ILT, PT, PE, M, WAKE, bitsOf, settings}
-use Rattle.sci.specs.Receiver.{outcome, receiverAfter, received}
-use Rattle.sci.specs.Line.{Op, sample, read, act}
+use Rattle.sci.specs.model.Control.{ILT, PT, PE, M, WAKE, bitsOf, settings}
+use Rattle.sci.specs.model.Receiver.{outcome, receiverAfter, received}
+use Rattle.sci.specs.claims.Line.{Op, sample, read, act}
 use Rattle.sci.specs.declared.status.Status.{Status}
 use Rattle.sci.specs.declared.receiver.Receiver.{Receiver}
 use Rattle.sci.specs.declared.receiver.Outcome.{Outcome}

@@ -6,13 +6,13 @@ use Prim.Native.Nat.{ℕ, suc, _+_, _≤_, _<_}
 use native.Mathlib.Omega.{arith}
 use lib.Dec.{eqb}
 use borrow.Author.Tests.{eqb-false}
-use Rattle.sci.specs.Flags.{receiveFlags}
-use Rattle.sci.specs.Control.{M, PE, PT, bitsOf, frameSamples}
-use Rattle.sci.specs.Bits.{parityBit}
-use Rattle.sci.specs.Framer.{ends, frameOf, framed}
-use Rattle.sci.specs.Receiver.{startState, three, takes, full, idleCount, outcome, receiverAfter, received}
-use Rattle.sci.specs.Line.{Op, sample, read, act, acts, looked, fetched, readStatus}
-use Rattle.sci.specs.Sound.{span, togo, Sound}
+use Rattle.sci.specs.model.Flags.{receiveFlags}
+use Rattle.sci.specs.model.Control.{M, PE, PT, bitsOf, frameSamples}
+use Rattle.sci.specs.model.Bits.{parityBit}
+use Rattle.sci.specs.model.Framer.{ends, frameOf, framed}
+use Rattle.sci.specs.model.Receiver.{startState, three, takes, full, idleCount, outcome, receiverAfter, received}
+use Rattle.sci.specs.claims.Line.{Op, sample, read, act, acts, looked, fetched, readStatus}
+use Rattle.sci.specs.claims.Sound.{span, togo, Sound}
 use Rattle.sci.specs.declared.status.Status.{Status}
 use Rattle.sci.specs.declared.framer.Framer.{Framer}
 use Rattle.sci.specs.declared.receiver.Receiver.{Receiver}

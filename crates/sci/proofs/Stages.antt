@@ -5,10 +5,10 @@ use mathlib.Core.Bool.{Bool, true, false, not, _&&_, _||_, false≢true}
 use mathlib.Core.List.{List, [], _∷_}
 use mathlib.Core.Path.{_≡_, refl, sym, _∙_}
 use Rattle.steps.specs.Bits.{bit}
-use Rattle.sci.specs.Flags.{receiveFlags}
-use Rattle.sci.specs.Members.{member}
-use Rattle.sci.specs.Status.{markSeen}
-use Rattle.sci.specs.Line.{Op, sample, read, looked, fetched, readStatus}
+use Rattle.sci.specs.model.Flags.{receiveFlags}
+use Rattle.sci.specs.claims.Members.{member}
+use Rattle.sci.specs.model.Status.{markSeen}
+use Rattle.sci.specs.claims.Line.{Op, sample, read, looked, fetched, readStatus}
 use Rattle.sci.specs.declared.status.Status.{Status}
 use Rattle.sci.proofs.Flagged.{isSet, isMarked, set-markSeen, marked-markSeen, set-fallSeen, fallSeen-clear}
 

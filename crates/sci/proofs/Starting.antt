@@ -8,12 +8,12 @@ use native.Mathlib.Nat.{pow-suc}
 use lib.Dec.{eqb, leb}
 use lib.Pow.{pow-pos}
 use borrow.Author.Tests.{ne-eqb, eqb-true, leb-true, leb-false, not-false}
-use Rattle.sci.specs.Flags.{TC, TDRE}
-use Rattle.sci.specs.Members.{member}
-use Rattle.sci.specs.Status.{has}
-use Rattle.sci.specs.Control.{PT, PE, M, TE, bitsOf, frameSamples}
-use Rattle.sci.specs.Transmitter.{runs, level, dataSent, frameBits, preambleBits, newLeft, passed, newShift, ends, beginsPreamble, beginsFrame, sent}
-use Rattle.sci.specs.TransmitterClauses.{frameStarts, preambleStarts, StartClauses}
+use Rattle.sci.specs.model.Flags.{TC, TDRE}
+use Rattle.sci.specs.claims.Members.{member}
+use Rattle.sci.specs.model.Status.{has}
+use Rattle.sci.specs.model.Control.{PT, PE, M, TE, bitsOf, frameSamples}
+use Rattle.sci.specs.model.Transmitter.{runs, level, dataSent, frameBits, preambleBits, newLeft, passed, newShift, ends, beginsPreamble, beginsFrame, sent}
+use Rattle.sci.specs.claims.TransmitterClauses.{frameStarts, preambleStarts, StartClauses}
 use Rattle.sci.specs.declared.status.Status.{Status}
 use Rattle.sci.specs.declared.transmitter.Transmitter.{Transmitter}
 use Rattle.sci.proofs.Membership.{and-right}

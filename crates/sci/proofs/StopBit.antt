@@ -9,14 +9,14 @@ use native.Mathlib.Decide.{decLt}
 use lib.Dec.{eqb, leb}
 use lib.ListN.{length, getD}
 use borrow.Author.Tests.{ne-eqb, le-leb}
-use Rattle.sci.specs.Flags.{TDRE}
-use Rattle.sci.specs.Status.{has}
-use Rattle.sci.specs.Control.{TE, frameSamples}
-use Rattle.sci.specs.Transmitter.{beginsFrame}
-use Rattle.sci.specs.Serial.{due, txd}
-use Rattle.sci.specs.Levels.{lowBits, frameLevels}
-use Rattle.sci.specs.Link.{dataBits}
-use Rattle.sci.specs.Wire.{Wired, Step, clock, atSender, atReceiver, step, steps, clocksIn, Rests, period, width, StopBitRests, FrameDrives}
+use Rattle.sci.specs.model.Flags.{TDRE}
+use Rattle.sci.specs.model.Status.{has}
+use Rattle.sci.specs.model.Control.{TE, frameSamples}
+use Rattle.sci.specs.model.Transmitter.{beginsFrame}
+use Rattle.sci.specs.model.Serial.{due, txd}
+use Rattle.sci.specs.claims.Levels.{lowBits, frameLevels}
+use Rattle.sci.specs.claims.Link.{dataBits}
+use Rattle.sci.specs.claims.Wire.{Wired, Step, clock, atSender, atReceiver, step, steps, clocksIn, Rests, period, width, StopBitRests, FrameDrives}
 use Rattle.sci.specs.declared.serial.Sci.{Sci}
 use Rattle.sci.proofs.Flagged.{isSet, has-flag}
 use Rattle.sci.proofs.Sending.{shows, low-length}

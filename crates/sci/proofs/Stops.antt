@@ -9,11 +9,11 @@ use lib.Dec.{eqb}
 use lib.Pow.{shr-shr}
 use borrow.Author.Tests.{eqb-true, eqb-false, leb-true}
 use Rattle.steps.specs.Bits.{merge}
-use Rattle.sci.specs.Control.{PT, PE, M, RE, bitsOf, frameSamples, sccr0Bits}
-use Rattle.sci.specs.Transmitter.{level, dataSent, frameBits, preambleBits, newLeft, newShift, passed, beginsPreamble, beginsFrame, free, sent}
-use Rattle.sci.specs.Serial.{resetSci, active, due, prescaled, clocked, dataWritten, sccr0Set, wroteSccr0, sccr1Word, withSccr1, stopped, wroteSccr1, sccr0Guarded, sccr1Guarded}
-use Rattle.sci.specs.History as history
-use Rattle.sci.specs.Wire.{Wired, Access, readStatus, readData, writeData, writeControl, accessed, Step, clock, atSender, atReceiver, step, steps, FreeAtOne}
+use Rattle.sci.specs.model.Control.{PT, PE, M, RE, bitsOf, frameSamples, sccr0Bits}
+use Rattle.sci.specs.model.Transmitter.{level, dataSent, frameBits, preambleBits, newLeft, newShift, passed, beginsPreamble, beginsFrame, free, sent}
+use Rattle.sci.specs.model.Serial.{resetSci, active, due, prescaled, clocked, dataWritten, sccr0Set, wroteSccr0, sccr1Word, withSccr1, stopped, wroteSccr1, sccr0Guarded, sccr1Guarded}
+use Rattle.sci.specs.claims.History as history
+use Rattle.sci.specs.claims.Wire.{Wired, Access, readStatus, readData, writeData, writeControl, accessed, Step, clock, atSender, atReceiver, step, steps, FreeAtOne}
 use Rattle.sci.specs.declared.status.Status.{Status}
 use Rattle.sci.specs.declared.transmitter.Transmitter.{Transmitter}
 use Rattle.sci.specs.declared.serial.Sci.{Sci}

@@ -4,8 +4,8 @@ use mathlib.Core.Bool.{Bool, true, false, not, true≢false, false≢true}
 use mathlib.Core.List.{List, [], _∷_, _++_}
 use Prim.Native.Nat.{ℕ, suc, _+_}
 use native.Mathlib.Omega.{arith}
-use Rattle.sci.specs.Overrun.{Mark, frameLost, wordCame, statusRead, wordDelivered, wasReset, hasReset, oneRun, openRun}
-use Rattle.sci.specs.Balance.{takenIn, lostIn, deliveredIn, risesIn, OneRise}
+use Rattle.sci.specs.claims.Overrun.{Mark, frameLost, wordCame, statusRead, wordDelivered, wasReset, hasReset, oneRun, openRun}
+use Rattle.sci.specs.claims.Balance.{takenIn, lostIn, deliveredIn, risesIn, OneRise}
 
 pub record Tally : Type 0 where
   pub taken : ℕ

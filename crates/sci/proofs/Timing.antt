@@ -6,14 +6,14 @@ use mathlib.Core.List.{List}
 use mathlib.Core.Bool.{Bool, true, false, _&&_}
 use native.Mathlib.Omega.{arith}
 use lib.ListN.{length, getD}
-use Rattle.sci.specs.Control.{SCBR, PT, PE, M, RE, bitsOf, settings}
-use Rattle.sci.specs.Bits.{parityBit}
-use Rattle.sci.specs.Receiver.{received}
-use Rattle.sci.specs.Transmitter.{sent}
-use Rattle.sci.specs.Serial.{sampled, counted, clocked}
-use Rattle.sci.specs.Levels.{value, endSample}
-use Rattle.sci.specs.Link.{Delivered}
-use Rattle.sci.specs.Wire.{Access, accessed, Same, hearing}
+use Rattle.sci.specs.model.Control.{SCBR, PT, PE, M, RE, bitsOf, settings}
+use Rattle.sci.specs.model.Bits.{parityBit}
+use Rattle.sci.specs.model.Receiver.{received}
+use Rattle.sci.specs.model.Transmitter.{sent}
+use Rattle.sci.specs.model.Serial.{sampled, counted, clocked}
+use Rattle.sci.specs.claims.Levels.{value, endSample}
+use Rattle.sci.specs.claims.Link.{Delivered}
+use Rattle.sci.specs.claims.Wire.{Access, accessed, Same, hearing}
 use Rattle.sci.specs.declared.receiver.Receiver.{Receiver}
 use Rattle.sci.specs.declared.receiver.Received.{Received}
 use Rattle.sci.specs.declared.serial.Sci.{Sci}

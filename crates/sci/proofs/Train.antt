@@ -8,12 +8,12 @@ use native.Mathlib.Omega.{arith}
 use native.Mathlib.Decide.{decLt}
 use lib.ListN.{replicate, length, take, getD, length-append, length-replicate, List·getD-append, getD-replicate}
 use lib.Seq.{take-length, getD-take, getD-append-add, getD-append-seam}
-use Rattle.sci.specs.Control.{PT, PE, M, bitsOf, frameSamples, settings}
-use Rattle.sci.specs.Bits.{parityBit}
-use Rattle.sci.specs.Levels.{lowBits, value, frameLevels, endSample}
-use Rattle.sci.specs.Line.{Op, sample, read, act, acts}
-use Rattle.sci.specs.Link.{sentAround, shown, dataBits, samplesOf, Delivered}
-use Rattle.sci.specs.BackToBack.{Turn, sentAll, levelsOf, samplesIn, Begins, Sends, readsData, readsBoth, Attended, WordForWord, BackToBack}
+use Rattle.sci.specs.model.Control.{PT, PE, M, bitsOf, frameSamples, settings}
+use Rattle.sci.specs.model.Bits.{parityBit}
+use Rattle.sci.specs.claims.Levels.{lowBits, value, frameLevels, endSample}
+use Rattle.sci.specs.claims.Line.{Op, sample, read, act, acts}
+use Rattle.sci.specs.claims.Link.{sentAround, shown, dataBits, samplesOf, Delivered}
+use Rattle.sci.specs.claims.BackToBack.{Turn, sentAll, levelsOf, samplesIn, Begins, Sends, readsData, readsBoth, Attended, WordForWord, BackToBack}
 use Rattle.sci.specs.declared.receiver.Received.{Received}
 use Rattle.sci.specs.declared.transmitter.Transmitter.{Transmitter}
 use Rattle.sci.proofs.Sending.{low-length, value-low}

@@ -6,8 +6,8 @@ use Prim.Native.Nat.{ℕ, _+_, _%_, _≤_, _<_}
 use native.Mathlib.Omega.{arith}
 use lib.Dec.{eqb, leb}
 use borrow.Author.Tests.{eqb-true, eqb-false, eq-eqb, ne-eqb}
-use Rattle.sci.specs.Bits.{vote, onesOf}
-use Rattle.sci.specs.Framer.{begins, abandons, ends, searched, judged, startBit, dataBit, stopBit, inBit, collected, nextRt, fixed, adjusts, adjusted, framed}
+use Rattle.sci.specs.model.Bits.{vote, onesOf}
+use Rattle.sci.specs.model.Framer.{begins, abandons, ends, searched, judged, startBit, dataBit, stopBit, inBit, collected, nextRt, fixed, adjusts, adjusted, framed}
 use Rattle.sci.specs.declared.framer.Framer.{Framer}
 use Rattle.sci.proofs.Frames.{by-cond, Adjusting, adjusting}
 use Rattle.sci.proofs.Moves.{moving}

@@ -3,9 +3,9 @@
 use Prim.Native.Nat.{ℕ}
 use mathlib.Core.Path.{_≡_, refl, _∙_}
 use mathlib.Core.List.{List, [], _∷_}
-use Rattle.sci.specs.Control.{RE}
-use Rattle.sci.specs.Serial.{txd}
-use Rattle.sci.specs.Wire.{Wired, readStatus, readData, writeData, writeControl, Unchanged, Step, clock, atSender, atReceiver, step, steps, readsOf, Rests}
+use Rattle.sci.specs.model.Control.{RE}
+use Rattle.sci.specs.model.Serial.{txd}
+use Rattle.sci.specs.claims.Wire.{Wired, readStatus, readData, writeData, writeControl, Unchanged, Step, clock, atSender, atReceiver, step, steps, readsOf, Rests}
 use Rattle.sci.specs.declared.serial.Sci.{Sci}
 use Rattle.sci.proofs.Stages.{Stage, stages}
 use Rattle.sci.proofs.Heeding.{heeded}

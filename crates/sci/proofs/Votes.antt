@@ -5,8 +5,8 @@ use Prim.Native.Nat.{_+_, _/_, _%_, _≤_}
 use native.Mathlib.Omega.{arith}
 use lib.Dec.{leb}
 use Rattle.steps.specs.Bits.{digit}
-use Rattle.sci.specs.Bits.{vote, majority, disagreed, onesOf}
-use Rattle.sci.specs.Framer.{judged}
+use Rattle.sci.specs.model.Bits.{vote, majority, disagreed, onesOf}
+use Rattle.sci.specs.model.Framer.{judged}
 use Rattle.sci.specs.declared.bits.Voted.{Voted}
 use Rattle.sci.specs.declared.framer.Framer.{Framer}
 

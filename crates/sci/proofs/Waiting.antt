@@ -8,13 +8,13 @@ use native.Mathlib.Omega.{arith}
 use lib.Dec.{leb}
 use lib.ListN.{replicate, length, length-replicate}
 use borrow.Author.Tests.{ne-eqb, leb-false}
-use Rattle.sci.specs.Control.{SCBR, M, RE, bitsOf, settings}
-use Rattle.sci.specs.Framer.{fixed, framed}
-use Rattle.sci.specs.Receiver.{three, received}
-use Rattle.sci.specs.Transmitter.{sent}
-use Rattle.sci.specs.Serial.{due, sampled, clocked}
-use Rattle.sci.specs.Levels.{framerAfter}
-use Rattle.sci.specs.Wire.{Access, accessed, Same, hearing}
+use Rattle.sci.specs.model.Control.{SCBR, M, RE, bitsOf, settings}
+use Rattle.sci.specs.model.Framer.{fixed, framed}
+use Rattle.sci.specs.model.Receiver.{three, received}
+use Rattle.sci.specs.model.Transmitter.{sent}
+use Rattle.sci.specs.model.Serial.{due, sampled, clocked}
+use Rattle.sci.specs.claims.Levels.{framerAfter}
+use Rattle.sci.specs.claims.Wire.{Access, accessed, Same, hearing}
 use Rattle.sci.specs.declared.receiver.Receiver.{Receiver}
 use Rattle.sci.specs.declared.receiver.Received.{Received}
 use Rattle.sci.specs.declared.serial.Sci.{Sci}

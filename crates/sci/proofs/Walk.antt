@@ -7,9 +7,9 @@ use mathlib.Core.List.{List, [], _∷_}
 use mathlib.Core.Path.{_≡_, refl, subst, _∙_}
 use lib.Dec.{eqb, eqb·suc-zero}
 use Rattle.steps.specs.Bits.{digit}
-use Rattle.sci.specs.Bits.{majority, disagreed, onesOf}
-use Rattle.sci.specs.Framer.{more, begun, ends, collected, startBit, dataBit, stopBit, fixed, adjusts, framed}
-use Rattle.sci.specs.Levels.{framerAfter, Unmoved}
+use Rattle.sci.specs.model.Bits.{majority, disagreed, onesOf}
+use Rattle.sci.specs.model.Framer.{more, begun, ends, collected, startBit, dataBit, stopBit, fixed, adjusts, framed}
+use Rattle.sci.specs.claims.Levels.{framerAfter, Unmoved}
 use Rattle.sci.specs.declared.framer.Framer.{Framer}
 
 -- Samples that lead a framer from f to g inside a frame, none of them the frame's last.

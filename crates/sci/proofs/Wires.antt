@@ -5,13 +5,13 @@ use mathlib.Core.Path.{_≡_, refl, ap, sym, subst, _∙_}
 use mathlib.Core.List.{List, [], _∷_, _++_}
 use mathlib.Core.Bool.{Bool, true, false, _&&_, true≢false}
 use native.Mathlib.Omega.{arith}
-use Rattle.sci.specs.Control.{SCBR, PT, PE, M, RE, bitsOf, settings}
-use Rattle.sci.specs.Bits.{parityBit}
-use Rattle.sci.specs.Serial.{clocked, txd}
-use Rattle.sci.specs.Levels.{lowBits, value, endSample}
-use Rattle.sci.specs.Line.{Op}
-use Rattle.sci.specs.Link.{dataBits, Delivered}
-use Rattle.sci.specs.Wire.{Wired, Unchanged, Step, clock, step, steps, readsOf, hearing, Matched, Rests, Begins, Frame, begun, ended, period, width, Sends, Received, Arrives, Waits, Word, AllSent, AllRead, AllReceived, ArriveInTurn}
+use Rattle.sci.specs.model.Control.{SCBR, PT, PE, M, RE, bitsOf, settings}
+use Rattle.sci.specs.model.Bits.{parityBit}
+use Rattle.sci.specs.model.Serial.{clocked, txd}
+use Rattle.sci.specs.claims.Levels.{lowBits, value, endSample}
+use Rattle.sci.specs.claims.Line.{Op}
+use Rattle.sci.specs.claims.Link.{dataBits, Delivered}
+use Rattle.sci.specs.claims.Wire.{Wired, Unchanged, Step, clock, step, steps, readsOf, hearing, Matched, Rests, Begins, Frame, begun, ended, period, width, Sends, Received, Arrives, Waits, Word, AllSent, AllRead, AllReceived, ArriveInTurn}
 use Rattle.sci.specs.declared.serial.Sci.{Sci}
 use Rattle.sci.proofs.Sending.{value-low}
 use Rattle.sci.proofs.Stages.{Stage, waiting, free, staged, stages}

@@ -3,16 +3,16 @@ use mathlib.Core.Bool.{Bool, true, false, false≢true}
 use mathlib.Core.List.{List, [], _∷_}
 use mathlib.Core.Path.{_≡_, refl}
 use native.Mathlib.Omega.{arith}
-use Rattle.sci.specs.Status.{has, raise, raiseIf, fall, fallIf, markSeen, fallSeen}
-use Rattle.sci.specs.Framer.{startBit, dataBit, stopBit, fixed, framed}
-use Rattle.sci.specs.Receiver.{outcome, raised, entered, statusAfter, receiverAfter, received}
-use Rattle.sci.specs.Transmitter.{sent}
-use Rattle.sci.specs.Line.{delivers, resyncSamples}
-use Rattle.sci.specs.Serial.{resetSci, sampled, clocked, wroteSccr0, wroteSccr1, sccr0Guarded, sccr1Guarded}
-use Rattle.sci.specs.History.{Step, reset, clock, reads, writesSccr0, writesSccr1, writesScdr, step, run, ops, watched, Unbroken}
-use Rattle.sci.specs.Overrun.{log}
-use Rattle.sci.specs.Demand3.{Recovers, Compared}
-use Rattle.sci.specs.Witness.{samples, rate, enable, before, quiet, later, recovering, waiting, wordsOf, Met}
+use Rattle.sci.specs.model.Status.{has, raise, raiseIf, fall, fallIf, markSeen, fallSeen}
+use Rattle.sci.specs.model.Framer.{startBit, dataBit, stopBit, fixed, framed}
+use Rattle.sci.specs.model.Receiver.{outcome, raised, entered, statusAfter, receiverAfter, received}
+use Rattle.sci.specs.model.Transmitter.{sent}
+use Rattle.sci.specs.claims.Line.{delivers, resyncSamples}
+use Rattle.sci.specs.model.Serial.{resetSci, sampled, clocked, wroteSccr0, wroteSccr1, sccr0Guarded, sccr1Guarded}
+use Rattle.sci.specs.claims.History.{Step, reset, clock, reads, writesSccr0, writesSccr1, writesScdr, step, run, ops, watched, Unbroken}
+use Rattle.sci.specs.claims.Overrun.{log}
+use Rattle.sci.specs.claims.Demand3.{Recovers, Compared}
+use Rattle.sci.specs.claims.Witness.{samples, rate, enable, before, quiet, later, recovering, waiting, wordsOf, Met}
 use Rattle.sci.specs.declared.serial.Sci.{Sci}
 
 -- Clocks and reads break nothing.

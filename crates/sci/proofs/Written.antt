@@ -4,11 +4,11 @@ use mathlib.Core.Bool.{Bool, true, false}
 use Prim.Native.Nat.{ℕ}
 use lib.Dec.{eqb}
 use Rattle.steps.specs.Bits.{merge}
-use Rattle.sci.specs.Flags.{RAF}
-use Rattle.sci.specs.Control.{RE, sccr0Bits}
-use Rattle.sci.specs.Alike.{Same}
-use Rattle.sci.specs.Serial.{sccr1Word, dataWritten, wroteSccr0, wroteSccr1, sccr0Guarded, sccr1Guarded, stopped, withSccr1}
-use Rattle.sci.specs.History.{Step, writesSccr0, writesSccr1, writesScdr, step}
+use Rattle.sci.specs.model.Flags.{RAF}
+use Rattle.sci.specs.model.Control.{RE, sccr0Bits}
+use Rattle.sci.specs.claims.Alike.{Same}
+use Rattle.sci.specs.model.Serial.{sccr1Word, dataWritten, wroteSccr0, wroteSccr1, sccr0Guarded, sccr1Guarded, stopped, withSccr1}
+use Rattle.sci.specs.claims.History.{Step, writesSccr0, writesSccr1, writesScdr, step}
 use Rattle.sci.specs.declared.serial.Sci.{Sci}
 use Rattle.sci.proofs.Frames.{by-cond}
 use Rattle.sci.proofs.Same.{same-refl, same-loaded, outside-fall}

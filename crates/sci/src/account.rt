@@ -1,7 +1,7 @@
 // Document 02, L14: the account of frames since the last reset.
 ghost use mathlib.Core.Path.{_≡_};
 ghost use Prim.Native.Nat.{_+_, min};
-ghost use Rattle.sci.specs.Account.{most, more, counting};
+ghost use Rattle.sci.specs.model.Account.{most, more, counting};
 use crate::receiver::Outcome;
 
 #[repr(C)]

@@ -2,7 +2,7 @@
 ghost use mathlib.Core.Path.{_≡_};
 ghost use Prim.Native.Nat.{_%_};
 ghost use Rattle.steps.specs.Bits.{digit};
-ghost use Rattle.sci.specs.Bits.{vote, odd, parityBit};
+ghost use Rattle.sci.specs.model.Bits.{vote, odd, parityBit};
 
 // What a vote over three samples gives: the bit, and how many of them disagreed with it.
 pub struct Voted {

@@ -2,9 +2,9 @@
 ghost use mathlib.Core.Path.{_≡_};
 ghost use Prim.Native.Nat.{_+_, _-_, min};
 ghost use Rattle.steps.specs.Iterate.{iterate};
-ghost use Rattle.sci.specs.Control.{bitsOf};
-ghost use Rattle.sci.specs.Serial.{clocked};
-ghost use Rattle.sci.specs.Quiet.{untilDue, quiet, skipped, senderRests, receiverRests, rests, shortened};
+ghost use Rattle.sci.specs.model.Control.{bitsOf};
+ghost use Rattle.sci.specs.model.Serial.{clocked};
+ghost use Rattle.sci.specs.quick.Quiet.{untilDue, quiet, skipped, senderRests, receiverRests, rests, shortened};
 use crate::control;
 use crate::flags::Flags;
 use crate::receiver::Receiver;

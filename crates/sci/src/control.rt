@@ -1,6 +1,6 @@
 // SCCR0 and SCCR1: their fields, decoded from the register words, and what M makes of a frame's length.
 ghost use mathlib.Core.Path.{_≡_};
-ghost use Rattle.sci.specs.Control.{SCBR, ILT, PT, PE, M, WAKE, TIE, TCIE, RIE, ILIE, TE, RE, RWU, bitsOf, frameSamples, sccr0Bits, sccr1Bits, settings, unmodelled};
+ghost use Rattle.sci.specs.model.Control.{SCBR, ILT, PT, PE, M, WAKE, TIE, TCIE, RIE, ILIE, TE, RE, RWU, bitsOf, frameSamples, sccr0Bits, sccr1Bits, settings, unmodelled};
 
 // Ruled out: bits 15:13 taken along; the low byte alone.
 pub fn scbr(sccr0: u16) -> u16

@@ -1,6 +1,6 @@
 // A set of status flags with named members, each at its bit of SCSR.
 ghost use mathlib.Core.Path.{_≡_};
-ghost use Rattle.sci.specs.Flags.{insert, contains, without, common};
+ghost use Rattle.sci.specs.model.Flags.{insert, contains, without, common};
 
 #[repr(C)]
 pub struct Flags {

@@ -2,9 +2,9 @@
 ghost use mathlib.Core.Path.{_≡_};
 ghost use mathlib.Core.Bool.{cond};
 ghost use Prim.Native.Nat.{_-_};
-ghost use Rattle.sci.specs.Control.{bitsOf};
-ghost use Rattle.sci.specs.Plain.{busy, rests, rested};
-ghost use Rattle.sci.specs.Framer.{more, searching, begun, begins, abandons, ends, frameOf, searched, noiseAt, judged, heard, startBit, collected, dataBit, stopBit, inBit, fixed, lastBit, earlyFall, lateFall, adjusts, adjusted, framed};
+ghost use Rattle.sci.specs.model.Control.{bitsOf};
+ghost use Rattle.sci.specs.quick.Plain.{busy, rests, rested};
+ghost use Rattle.sci.specs.model.Framer.{more, searching, begun, begins, abandons, ends, frameOf, searched, noiseAt, judged, heard, startBit, collected, dataBit, stopBit, inBit, fixed, lastBit, earlyFall, lateFall, adjusts, adjusted, framed};
 use crate::bits::digit;
 use crate::bits::vote;
 use crate::control::bits_of;

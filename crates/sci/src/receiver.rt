@@ -2,10 +2,10 @@
 ghost use mathlib.Core.Path.{_≡_};
 ghost use mathlib.Core.Bool.{cond, _&&_};
 ghost use Prim.Native.Nat.{_+_, min};
-ghost use Rattle.sci.specs.Bits.{parityBit};
-ghost use Rattle.sci.specs.Control.{bitsOf};
-ghost use Rattle.sci.specs.Plain.{plain, passed};
-ghost use Rattle.sci.specs.Receiver.{startState, three, full, raised, entered, statusAfter, idleCount, takes, reaches, outcome, receiverAfter, received};
+ghost use Rattle.sci.specs.model.Bits.{parityBit};
+ghost use Rattle.sci.specs.model.Control.{bitsOf};
+ghost use Rattle.sci.specs.quick.Plain.{plain, passed};
+ghost use Rattle.sci.specs.model.Receiver.{startState, three, full, raised, entered, statusAfter, idleCount, takes, reaches, outcome, receiverAfter, received};
 use crate::bits::parity_bit;
 use crate::control;
 use crate::flags::Flags;

@@ -1,11 +1,11 @@
 // The serial half as one state: reset, clocks, the accesses to its registers, TXD and the request.
 ghost use mathlib.Core.Path.{_≡_};
 ghost use Prim.Native.Nat.{_+_, min};
-ghost use Rattle.sci.specs.Control.{sccr0Bits};
-ghost use Rattle.sci.specs.Serial.{resetSci, active, due, sampled, counted, prescaled, clocked, sccr1Word, scsrWord, scdrWord, withStatus, statusRead, dataRead, loaded, dataWritten, withSccr0, sccr0Set, wroteSccr0, stopped, withSccr1, wroteSccr1, sccr0Guarded, sccr1Guarded, txdDriven, txd, asks};
-ghost use Rattle.sci.specs.Plain.{listened};
-ghost use Rattle.sci.specs.Receiver.{outcome};
-ghost use Rattle.sci.specs.Account.{accounted};
+ghost use Rattle.sci.specs.model.Control.{sccr0Bits};
+ghost use Rattle.sci.specs.model.Serial.{resetSci, active, due, sampled, counted, prescaled, clocked, sccr1Word, scsrWord, scdrWord, withStatus, statusRead, dataRead, loaded, dataWritten, withSccr0, sccr0Set, wroteSccr0, stopped, withSccr1, wroteSccr1, sccr0Guarded, sccr1Guarded, txdDriven, txd, asks};
+ghost use Rattle.sci.specs.quick.Plain.{listened};
+ghost use Rattle.sci.specs.model.Receiver.{outcome};
+ghost use Rattle.sci.specs.model.Account.{accounted};
 use crate::account::Account;
 use crate::control;
 use crate::flags::Flags;

@@ -1,6 +1,6 @@
 // SCSR: the flags that are set, and which of them a status read has seen.
 ghost use mathlib.Core.Path.{_≡_};
-ghost use Rattle.sci.specs.Status.{has, raise, raiseIf, fall, fallIf, markSeen, fallSeen};
+ghost use Rattle.sci.specs.model.Status.{has, raise, raiseIf, fall, fallIf, markSeen, fallSeen};
 use crate::flags::Flags;
 
 #[repr(C)]

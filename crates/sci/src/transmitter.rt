@@ -1,9 +1,9 @@
 // The transmitter: one sample at a time, with the flags that it raises.
 ghost use mathlib.Core.Path.{_≡_};
 ghost use mathlib.Core.Bool.{cond};
-ghost use Rattle.sci.specs.Control.{bitsOf, M, PE, PT};
-ghost use Rattle.sci.specs.Plain.{turns, shifted};
-ghost use Rattle.sci.specs.Transmitter.{runs, level, withParity, dataSent, frameBits, preambleBits, newLeft, passed, ends, free, beginsPreamble, beginsFrame, sent};
+ghost use Rattle.sci.specs.model.Control.{bitsOf, M, PE, PT};
+ghost use Rattle.sci.specs.quick.Plain.{turns, shifted};
+ghost use Rattle.sci.specs.model.Transmitter.{runs, level, withParity, dataSent, frameBits, preambleBits, newLeft, passed, ends, free, beginsPreamble, beginsFrame, sent};
 use crate::bits::parity_bit;
 use crate::control;
 use crate::flags::Flags;

@@ -8,7 +8,7 @@ use native.Mathlib.Omega.{arith}
 use lib.Dec.{ltb}
 use borrow.Author.Tests.{lt-ltb, le-ltb, ltb-true, ltb-false}
 use Rattle.text.specs.Digits.{decimal, decimalDigit}
-use Rattle.text.specs.Laws.{valued, DigitsGiveBack}
+use Rattle.text.specs.Claims.{valued, DigitsGiveBack}
 
 pub decimal-none : (n : ℕ) → decimal 0 n ≡ []
 unfolding decimal

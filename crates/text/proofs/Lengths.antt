@@ -6,7 +6,7 @@ use native.Mathlib.Omega.{arith}
 use lib.Dec.{eqb, ltb}
 use lib.ListN.{length, length-append}
 use Rattle.steps.specs.Bits.{bit}
-use Rattle.qsm.specs.Map.{decode}
+use Rattle.qsm.specs.model.Map.{decode}
 use Rattle.qsm.specs.declared.event.Answer.{Answer}
 use Rattle.qsm.specs.declared.event.Access.{Access}
 use Rattle.qsm.specs.declared.event.Access.the-variants.{Read, Write}

@@ -12,7 +12,7 @@ use lib.Seq.{take-suc}
 use borrow.Author.Tests.{lt-ltb, le-ltb, ltb-true, ltb-false}
 use Rattle.text.specs.Digits.{decimal, decimalDigit}
 use Rattle.text.specs.Number.{next, after, numberOf}
-use Rattle.text.specs.Laws.{NumbersGiveBack}
+use Rattle.text.specs.Claims.{NumbersGiveBack}
 use Rattle.text.specs.declared.number.Number.{Number}
 use Rattle.text.specs.declared.number.Number.the-variants.{Is, NoNumber}
 use Rattle.text.proofs.Decimal.{decimal-none, decimal-one, decimal-more}

@@ -12,7 +12,7 @@ use borrow.Author.Tests.{le-ltb, eq-eqb, ne-eqb}
 use Rattle.trace.specs.Trace.{answerKind, answerBody, answerBytes, clockBytes, longAt}
 use Rattle.trace.proofs.LongHolds.{four-bytes}
 use Rattle.text.specs.Log.{plainKind, sizeOf, wide, otherKind}
-use Rattle.text.specs.Laws.{Behind, BytesGiveBack, PlainGiveBack, KindsApart}
+use Rattle.text.specs.Claims.{Behind, BytesGiveBack, PlainGiveBack, KindsApart}
 
 at-least : (t : Bool) → 10 ≤ cond t 18 10
 at-least true = omega arith

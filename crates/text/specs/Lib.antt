@@ -10,4 +10,4 @@ pub mod Difference
 pub mod Verdict
 pub mod Noise
 pub mod Account
-pub mod Laws
+pub mod Claims

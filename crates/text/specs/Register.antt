@@ -3,7 +3,7 @@ use mathlib.Core.Bool.{cond}
 use mathlib.Core.List.{List, [], _∷_, _++_}
 use Prim.Native.Nat.{ℕ, _+_, _*_, _%_}
 use lib.Dec.{eqb}
-use Rattle.qsm.specs.Map.{decode}
+use Rattle.qsm.specs.model.Map.{decode}
 use Rattle.qsm.specs.declared.map.OwnWord.{OwnWord}
 use Rattle.qsm.specs.declared.map.OwnWord.the-variants.{Qsmcr, QilrQivr, Portqs, PqsparDdrqs}
 use Rattle.qsm.specs.declared.map.SerialWord.{SerialWord}

@@ -10,8 +10,8 @@ use borrow.Author.Tests.{lt-ltb, le-ltb, ltb-true, ltb-false}
 use Rattle.qsm.specs.declared.state.Module.{Module}
 use Rattle.qsm.specs.declared.event.Event.{Event}
 use Rattle.qsm.specs.declared.event.Stepped.{Stepped}
-use Rattle.qsm.specs.Event.{step}
-use Rattle.qsm.specs.Count.{limited}
+use Rattle.qsm.specs.model.Event.{step}
+use Rattle.qsm.specs.claims.Count.{limited}
 use Rattle.trace.specs.Trace.{everyKind, parsedBy, answerBody, answerLength, answerBytes, Reader}
 use Rattle.trace.specs.Play.{Outcome, stopped, answeredBy, answered, followed, turn, playFor}
 use Rattle.trace.specs.LongHolds.{Same, AsMany}

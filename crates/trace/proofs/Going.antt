@@ -14,8 +14,8 @@ use denote.Enum.Declared.{tagOf}
 use Rattle.qsm.specs.declared.state.Module.{Module}
 use Rattle.qsm.specs.declared.event.Event.{Event}
 use Rattle.qsm.specs.declared.event.Stepped.{Stepped}
-use Rattle.qsm.specs.Event.{step}
-use Rattle.qsm.specs.Count.{limited}
+use Rattle.qsm.specs.model.Event.{step}
+use Rattle.qsm.specs.claims.Count.{limited}
 use Rattle.qsm.proofs.Counting.{limited-stays}
 use Rattle.trace.specs.Trace.{parsed, answerLength, answerBytes, reader}
 use Rattle.trace.specs.Play.{Outcome, stopNumber, refusalOf, stopped, answered, followed, turn, play, Plays}

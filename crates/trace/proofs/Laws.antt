@@ -9,7 +9,7 @@ use lib.ListN.{length, take, drop, take-append-drop, length-append, drop-of-leng
 use lib.Seq.{length-take-le, take-append-le, drop-append-le, drop-drop, take-at, drop-at}
 use Rattle.qsm.specs.declared.state.Module.{Module}
 use Rattle.qsm.specs.declared.event.Event.{Event}
-use Rattle.qsm.specs.Event.{step}
+use Rattle.qsm.specs.model.Event.{step}
 use Rattle.trace.specs.Trace.{byteAt, byKind, parsed, answerLength, reader}
 use Rattle.trace.specs.Play.{Outcome, answered, followed, play}
 use Rattle.trace.specs.declared.Parsed.{Parsed}

@@ -14,8 +14,8 @@ use Rattle.qsm.specs.declared.event.Answer.{Answer}
 use Rattle.qsm.specs.declared.event.Done.{Done}
 use Rattle.qsm.specs.declared.event.Event.{Event}
 use Rattle.qsm.specs.declared.event.Event.the-variants.{Hold}
-use Rattle.qsm.specs.Event.{answerOf, passes, step}
-use Rattle.qsm.specs.Count.{limited}
+use Rattle.qsm.specs.model.Event.{answerOf, passes, step}
+use Rattle.qsm.specs.claims.Count.{limited}
 use Rattle.qsm.proofs.Limit.{hold-played, is-room}
 use Rattle.qsm.proofs.Splitting.{splits, refused-in-parts}
 use Rattle.trace.specs.Trace.{byteAt, longHoldKind, byKind, everyKind, earlier, parsedBy, parsed, answerLength, answerBytes, Reader, reader}

@@ -11,8 +11,8 @@ use lib.Seq.{getD-take, length-take-le}
 use borrow.Author.Tests.{le-ltb, ltb-false, eq-eqb, ne-eqb, eqb-true, eqb-false}
 use Rattle.qsm.specs.declared.state.Module.{Module}
 use Rattle.qsm.specs.declared.event.Event.{Event}
-use Rattle.qsm.specs.Event.{step}
-use Rattle.qsm.specs.Count.{limited}
+use Rattle.qsm.specs.model.Event.{step}
+use Rattle.qsm.specs.claims.Count.{limited}
 use Rattle.trace.specs.Trace.{byteAt, whole, resetKind, holdKind, readKind, writeKind, longHoldKind, byKind, everyKind, parsedBy, parsed, Reader}
 use Rattle.trace.specs.Play.{Outcome, stopped, answeredBy, followed, turn, playFor, playBy}
 use Rattle.trace.specs.declared.Parsed.{Parsed}

@@ -2,4 +2,4 @@ pub mod Trace
 pub mod Play
 pub mod Laws
 pub mod LongHolds
-pub mod Shown
+pub mod Claims

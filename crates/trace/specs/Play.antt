@@ -5,8 +5,8 @@ use mathlib.Core.List.{List, [], _∷_, _++_, flatten}
 use Prim.Native.Nat.{ℕ, zero, suc, _-_, _*_}
 use lib.Dec.{eqb, ltb}
 use lib.ListN.{length, take, drop}
-use Rattle.qsm.specs.Event.{step}
-use Rattle.qsm.specs.Count.{limited}
+use Rattle.qsm.specs.model.Event.{step}
+use Rattle.qsm.specs.claims.Count.{limited}
 use Rattle.qsm.specs.declared.state.Module.{Module}
 use Rattle.qsm.specs.declared.event.Stepped.{Stepped}
 use Rattle.trace.specs.Trace.{parsedBy, answerLength, Reader, reader}

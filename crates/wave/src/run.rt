@@ -6,9 +6,9 @@ use files::pieces::counted;
 use files::pieces::fill;
 use libc::STDOUT_FILENO;
 use text::line::Line;
-use waves::Outcome;
-use waves::Step;
-use waves::Waves;
+use tool_wave::Outcome;
+use tool_wave::Step;
+use tool_wave::Waves;
 
 // Where a run stands.
 pub struct Run {
@@ -39,7 +39,7 @@ impl Run {
     // At the start of a trace, with nothing read.
     pub fn start() -> Run {
         Run {
-            state: waves::start(),
+            state: tool_wave::start(),
             place: 0,
             total: 0,
             ended: false,
@@ -85,7 +85,7 @@ fn at_end(fd: i32, run: Run, buf: &mut [u8], last: Next) -> Turned {
 }
 
 fn drawn(run: Run, hz: u32, step: Step) -> Turned {
-    if write_line(waves::vcd::step_text(hz, step)) {
+    if write_line(tool_wave::vcd::step_text(hz, step)) {
         run.next(Next::More)
     } else {
         run.next(Next::NotWritten)
@@ -105,11 +105,11 @@ fn passed(before: usize, after: usize) -> usize {
 }
 
 // A turn on the first bytes of the buffer.
-fn call(s: Waves, buf: &[u8], total: usize) -> waves::Turned {
+fn call(s: Waves, buf: &[u8], total: usize) -> tool_wave::Turned {
     if buf.len() < total {
-        return waves::go_on(s, buf);
+        return tool_wave::go_on(s, buf);
     }
-    waves::go_on(s, &buf[..total])
+    tool_wave::go_on(s, &buf[..total])
 }
 
 // One turn, and what it tells.
@@ -137,7 +137,7 @@ fn turn(fd: i32, run: Run, hz: u32, buf: &mut [u8]) -> Turned {
 pub fn write_end(run: Run, hz: u32) -> bool {
     let state = run.state;
     let probe = state.probe;
-    write_line(waves::vcd::time_text(hz, probe.clock))
+    write_line(tool_wave::vcd::time_text(hz, probe.clock))
 }
 
 pub fn draw(fd: i32, hz: u32) -> Turned {

@@ -6,7 +6,7 @@ use native.Mathlib.Omega.{arith}
 use lib.ListN.{length, take, drop, length-drop, drop-of-length-le}
 use lib.Seq.{take-all}
 use borrow.Author.Needs.{needs}
-use Rattle.comparison.proofs.Beginning.{stride-bounds}
+use Rattle.tool_compare.proofs.Beginning.{stride-bounds}
 use Rattle.compare.proofs.show.answer_of.Statement.{statement}
 use Rattle.compare.proofs.show.answer_of.Tie as tie
 

@@ -1,5 +1,5 @@
-use Rattle.qsm.specs.Decision.{admitted, decideRead}
-use Rattle.qsm.specs.Event.{answerOf, refused, reads, does, step}
+use Rattle.qsm.specs.model.Decision.{admitted, decideRead}
+use Rattle.qsm.specs.model.Event.{answerOf, refused, reads, does, step}
 use borrow.Author.Needs.{needs}
 use Rattle.drivers.proofs.event.answer.Statement.{statement}
 use Rattle.drivers.proofs.event.answer.Tie as tie

@@ -3,8 +3,8 @@ use Prim.Native.Nat.{_+_, _-_, _≤_}
 use native.Mathlib.Omega.{arith}
 use borrow.Author.Needs.{needs}
 use lib.ListN.{length}
-use Rattle.settings.proofs.Shapes.{size-positive}
-use Rattle.settings.proofs.Walking.{fits}
+use Rattle.tool_editions.proofs.Shapes.{size-positive}
+use Rattle.tool_editions.proofs.Walking.{fits}
 use Rattle.editions.proofs.show.list.Statement.{statement}
 use Rattle.editions.proofs.show.list.Tie as tie
 

@@ -6,11 +6,11 @@ use native.Mathlib.Omega.{arith}
 use borrow.Author.Needs.{needs}
 use borrow.Author.Tests.{not-true, not-false}
 use Rattle.steps.specs.Iterate.{iterate}
-use Rattle.sci.specs.Serial.{clocked}
-use Rattle.sci.specs.Quiet.{withCount}
-use Rattle.qspi.specs.Queue.{clock}
-use Rattle.qsm.specs.State.{withSci, withQspi}
-use Rattle.qsm.specs.Event.{done, pinsOf, passes, held, holds}
+use Rattle.sci.specs.model.Serial.{clocked}
+use Rattle.sci.specs.quick.Quiet.{withCount}
+use Rattle.qspi.specs.model.Queue.{clock}
+use Rattle.qsm.specs.model.State.{withSci, withQspi}
+use Rattle.qsm.specs.model.Event.{done, pinsOf, passes, held, holds}
 use Rattle.qsm.proofs.Clocks.{counting}
 use Rattle.qsm.proofs.Limit.{has-room}
 use Rattle.qsm.proofs.Straight.{shown}

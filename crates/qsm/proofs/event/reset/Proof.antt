@@ -1,4 +1,4 @@
-use Rattle.qsm.specs.Event.{resets}
+use Rattle.qsm.specs.model.Event.{resets}
 use borrow.Author.Needs.{needs}
 use Rattle.qsm.proofs.event.reset.Statement.{statement}
 use Rattle.qsm.proofs.event.reset.Tie as tie

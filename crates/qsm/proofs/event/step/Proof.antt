@@ -1,4 +1,4 @@
-use Rattle.qsm.specs.Event.{step}
+use Rattle.qsm.specs.model.Event.{step}
 use borrow.Author.Needs.{needs}
 use Rattle.qsm.proofs.event.step.Statement.{statement}
 use Rattle.qsm.proofs.event.step.Tie as tie

@@ -6,9 +6,9 @@ use borrow.Author.Needs.{needs}
 use borrow.Author.Tests.{eqb-true, not-true}
 use Rattle.steps.proofs.Iterate.{iterate-fixed}
 use Rattle.sci.proofs.Plain.{first, second}
-use Rattle.qspi.specs.Fields.{spe}
-use Rattle.qspi.specs.Queue.{clock}
-use Rattle.qspi.specs.Quiet.{plays, edgeWithin}
+use Rattle.qspi.specs.model.Fields.{spe}
+use Rattle.qspi.specs.model.Queue.{clock}
+use Rattle.qspi.specs.quick.Quiet.{plays, edgeWithin}
 use Rattle.qspi.proofs.Quiet.{clock-off, quiet-clocks}
 use Rattle.qsm.proofs.Brief.{quiet-entry, one-edge}
 use Rattle.qsm.proofs.holding.queue_held.Statement.{statement}

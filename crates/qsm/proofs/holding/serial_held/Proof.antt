@@ -5,7 +5,7 @@ use native.Mathlib.Omega.{arith}
 use lib.Dec.{eqb}
 use borrow.Author.Needs.{needs}
 use borrow.Author.Tests.{eqb-true}
-use Rattle.sci.specs.Quiet.{quiet, rests}
+use Rattle.sci.specs.quick.Quiet.{quiet, rests}
 use Rattle.sci.proofs.Quiet.{skips}
 use Rattle.sci.proofs.Plain.{first, second}
 use Rattle.qsm.proofs.Brief.{quiet-count, one-sample}

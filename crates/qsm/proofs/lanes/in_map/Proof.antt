@@ -1,4 +1,4 @@
-use Rattle.qsm.specs.Lanes.{inMap}
+use Rattle.qsm.specs.model.Lanes.{inMap}
 use borrow.Author.Needs.{needs}
 use Rattle.qsm.proofs.lanes.in_map.Statement.{statement}
 use Rattle.qsm.proofs.lanes.in_map.Tie as tie

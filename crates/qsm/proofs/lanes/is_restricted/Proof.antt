@@ -1,4 +1,4 @@
-use Rattle.qsm.specs.Lanes.{isRestricted}
+use Rattle.qsm.specs.model.Lanes.{isRestricted}
 use borrow.Author.Needs.{needs}
 use Rattle.qsm.proofs.lanes.is_restricted.Statement.{statement}
 use Rattle.qsm.proofs.lanes.is_restricted.Tie as tie

@@ -1,4 +1,4 @@
-use Rattle.qsm.specs.Own.{ownUnmodelled}
+use Rattle.qsm.specs.model.Own.{ownUnmodelled}
 use borrow.Author.Needs.{needs}
 use Rattle.qsm.proofs.own.own_unmodelled.Statement.{statement}
 use Rattle.qsm.proofs.own.own_unmodelled.Tie as tie

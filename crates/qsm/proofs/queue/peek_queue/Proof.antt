@@ -1,4 +1,4 @@
-use Rattle.qsm.specs.Queue.{peekQueue}
+use Rattle.qsm.specs.model.Queue.{peekQueue}
 use borrow.Author.Needs.{needs}
 use Rattle.qsm.proofs.queue.peek_queue.Statement.{statement}
 use Rattle.qsm.proofs.queue.peek_queue.Tie as tie

@@ -1,4 +1,4 @@
-use Rattle.qsm.specs.Queue.{putQueue}
+use Rattle.qsm.specs.model.Queue.{putQueue}
 use borrow.Author.Needs.{needs}
 use Rattle.qsm.proofs.queue.put_queue.Statement.{statement}
 use Rattle.qsm.proofs.queue.put_queue.Tie as tie

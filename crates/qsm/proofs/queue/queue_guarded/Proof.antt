@@ -1,4 +1,4 @@
-use Rattle.qsm.specs.Queue.{queueGuarded}
+use Rattle.qsm.specs.model.Queue.{queueGuarded}
 use borrow.Author.Needs.{needs}
 use Rattle.qsm.proofs.queue.queue_guarded.Statement.{statement}
 use Rattle.qsm.proofs.queue.queue_guarded.Tie as tie

@@ -1,4 +1,4 @@
-use Rattle.qsm.specs.Queue.{queueRead}
+use Rattle.qsm.specs.model.Queue.{queueRead}
 use borrow.Author.Needs.{needs}
 use Rattle.qsm.proofs.queue.queue_read.Statement.{statement}
 use Rattle.qsm.proofs.queue.queue_read.Tie as tie

@@ -1,4 +1,4 @@
-use Rattle.qsm.specs.Queue.{queueUnmodelled}
+use Rattle.qsm.specs.model.Queue.{queueUnmodelled}
 use borrow.Author.Needs.{needs}
 use Rattle.qsm.proofs.queue.queue_unmodelled.Statement.{statement}
 use Rattle.qsm.proofs.queue.queue_unmodelled.Tie as tie

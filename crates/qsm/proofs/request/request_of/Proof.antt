@@ -1,4 +1,4 @@
-use Rattle.qsm.specs.Request.{request}
+use Rattle.qsm.specs.model.Request.{request}
 use borrow.Author.Needs.{needs}
 use Rattle.qsm.proofs.request.request_of.Statement.{statement}
 use Rattle.qsm.proofs.request.request_of.Tie as tie

@@ -1,4 +1,4 @@
-use Rattle.qsm.specs.Serial.{peekSerial}
+use Rattle.qsm.specs.model.Serial.{peekSerial}
 use borrow.Author.Needs.{needs}
 use Rattle.qsm.proofs.serial.peek_serial.Statement.{statement}
 use Rattle.qsm.proofs.serial.peek_serial.Tie as tie

@@ -1,4 +1,4 @@
-use Rattle.qsm.specs.Serial.{putSerial}
+use Rattle.qsm.specs.model.Serial.{putSerial}
 use borrow.Author.Needs.{needs}
 use Rattle.qsm.proofs.serial.put_serial.Statement.{statement}
 use Rattle.qsm.proofs.serial.put_serial.Tie as tie

@@ -1,4 +1,4 @@
-use Rattle.qsm.specs.Serial.{serialGuarded}
+use Rattle.qsm.specs.model.Serial.{serialGuarded}
 use borrow.Author.Needs.{needs}
 use Rattle.qsm.proofs.serial.serial_guarded.Statement.{statement}
 use Rattle.qsm.proofs.serial.serial_guarded.Tie as tie

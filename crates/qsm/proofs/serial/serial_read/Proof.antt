@@ -1,4 +1,4 @@
-use Rattle.qsm.specs.Serial.{serialRead}
+use Rattle.qsm.specs.model.Serial.{serialRead}
 use borrow.Author.Needs.{needs}
 use Rattle.qsm.proofs.serial.serial_read.Statement.{statement}
 use Rattle.qsm.proofs.serial.serial_read.Tie as tie

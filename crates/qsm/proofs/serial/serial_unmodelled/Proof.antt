@@ -1,4 +1,4 @@
-use Rattle.qsm.specs.Serial.{serialUnmodelled}
+use Rattle.qsm.specs.model.Serial.{serialUnmodelled}
 use borrow.Author.Needs.{needs}
 use Rattle.qsm.proofs.serial.serial_unmodelled.Statement.{statement}
 use Rattle.qsm.proofs.serial.serial_unmodelled.Tie as tie

@@ -1,6 +1,6 @@
 use mathlib.Core.Path.{ap, _∙_}
 use borrow.Author.Needs.{needs}
-use Rattle.gatherer.specs.declared.Turned.{Turned}
+use Rattle.tool_lines.specs.declared.Turned.{Turned}
 use Rattle.qsm_c.specs.Lines.{inNumbers}
 use Rattle.qsm_c.proofs.lines.qsm_lines_next.Statement.{statement}
 use Rattle.qsm_c.proofs.lines.qsm_lines_next.Tie as tie

@@ -1,5 +1,5 @@
 use borrow.Author.Needs.{needs}
-use Rattle.qspi.specs.Queue.{clock}
+use Rattle.qspi.specs.model.Queue.{clock}
 use Rattle.qspi.proofs.Qspi.clock.Statement.{statement}
 use Rattle.qspi.proofs.Qspi.clock.Tie as tie
 

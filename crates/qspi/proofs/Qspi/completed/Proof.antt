@@ -1,5 +1,5 @@
 use borrow.Author.Needs.{needs}
-use Rattle.qspi.specs.Queue.{completed}
+use Rattle.qspi.specs.model.Queue.{completed}
 use Rattle.qspi.proofs.Qspi.completed.Statement.{statement}
 use Rattle.qspi.proofs.Qspi.completed.Tie as tie
 

@@ -1,5 +1,5 @@
 use borrow.Author.Needs.{needs}
-use Rattle.qspi.specs.Queue.{delayClock}
+use Rattle.qspi.specs.model.Queue.{delayClock}
 use Rattle.qspi.proofs.Qspi.delay_clock.Statement.{statement}
 use Rattle.qspi.proofs.Qspi.delay_clock.Tie as tie
 

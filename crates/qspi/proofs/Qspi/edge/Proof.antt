@@ -1,6 +1,6 @@
 use native.Mathlib.Omega.{arith}
 use borrow.Author.Needs.{needs}
-use Rattle.qspi.specs.Queue.{edge}
+use Rattle.qspi.specs.model.Queue.{edge}
 use Rattle.qspi.proofs.Bounds.{bits-small}
 use Rattle.qspi.proofs.Qspi.edge.Statement.{statement}
 use Rattle.qspi.proofs.Qspi.edge.Tie as tie

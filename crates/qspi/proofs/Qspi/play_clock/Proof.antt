@@ -1,5 +1,5 @@
 use borrow.Author.Needs.{needs}
-use Rattle.qspi.specs.Queue.{playClock}
+use Rattle.qspi.specs.model.Queue.{playClock}
 use Rattle.qspi.proofs.Qspi.play_clock.Statement.{statement}
 use Rattle.qspi.proofs.Qspi.play_clock.Tie as tie
 

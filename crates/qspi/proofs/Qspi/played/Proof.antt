@@ -6,10 +6,10 @@ use Prim.Native.Nat.{_+_, _*_, _%_, _≤_, _<_}
 use native.Mathlib.Omega.{arith}
 use borrow.Author.Needs.{needs}
 use Rattle.steps.specs.Iterate.{iterate}
-use Rattle.qspi.specs.Falls.{edgesFallen}
-use Rattle.qspi.specs.Parts.{withEntry}
-use Rattle.qspi.specs.Queue.{clock, misoOf}
-use Rattle.qspi.specs.Quiet.{atLeastOne, untilEdge}
+use Rattle.qspi.specs.quick.Falls.{edgesFallen}
+use Rattle.qspi.specs.model.Parts.{withEntry}
+use Rattle.qspi.specs.model.Queue.{clock, misoOf}
+use Rattle.qspi.specs.quick.Quiet.{atLeastOne, untilEdge}
 use Rattle.qspi.proofs.Bounds.{bits-small}
 use Rattle.qspi.proofs.Quiet.{all-quiet, turned, until-edge, at-end}
 use Rattle.qspi.proofs.Fallen.{none-fallen, fallen-until, both-tests, fallen-turn}

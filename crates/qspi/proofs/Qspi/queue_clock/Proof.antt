@@ -1,6 +1,6 @@
 use mathlib.Core.Path.{sym, _∙_}
 use borrow.Author.Needs.{needs}
-use Rattle.qspi.specs.Queue.{queueClock}
+use Rattle.qspi.specs.model.Queue.{queueClock}
 use Rattle.qspi.proofs.Qspi.queue_clock.Statement.{statement}
 use Rattle.qspi.proofs.Qspi.queue_clock.Tie as tie
 

@@ -1,4 +1,4 @@
-use Rattle.qspi.specs.Quiet.{quiet}
+use Rattle.qspi.specs.quick.Quiet.{quiet}
 use borrow.Author.Needs.{needs}
 use Rattle.qspi.proofs.Qspi.quiet.Statement.{statement}
 use Rattle.qspi.proofs.Qspi.quiet.Tie as tie

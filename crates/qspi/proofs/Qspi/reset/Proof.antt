@@ -1,5 +1,5 @@
 use mathlib.Core.Path.{refl}
-use Rattle.qspi.specs.Registers.{reset}
+use Rattle.qspi.specs.model.Registers.{reset}
 use Rattle.qspi.proofs.Qspi.reset.Statement.{statement}
 use Rattle.qspi.proofs.Qspi.reset.Tie as tie
 

@@ -5,7 +5,7 @@ use Prim.Native.Nat.{_-_, _≤_}
 use native.Mathlib.Omega.{arith}
 use borrow.Author.Needs.{needs}
 use Rattle.steps.specs.Iterate.{iterate}
-use Rattle.qspi.specs.Queue.{clock}
+use Rattle.qspi.specs.model.Queue.{clock}
 use Rattle.qspi.specs.declared.Qspi.{Qspi}
 use Rattle.qspi.proofs.Quiet.{at-end}
 use Rattle.qspi.proofs.Returning.{stretched, further-back, rested, just-saved}

@@ -1,4 +1,4 @@
-use Rattle.qspi.specs.Quiet.{skipped}
+use Rattle.qspi.specs.quick.Quiet.{skipped}
 use borrow.Author.Needs.{needs}
 use Rattle.qspi.proofs.Qspi.skipped.Statement.{statement}
 use Rattle.qspi.proofs.Qspi.skipped.Tie as tie

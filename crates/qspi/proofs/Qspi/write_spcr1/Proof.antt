@@ -1,5 +1,5 @@
 use borrow.Author.Needs.{needs}
-use Rattle.qspi.specs.Registers.{writeSpcr1}
+use Rattle.qspi.specs.model.Registers.{writeSpcr1}
 use Rattle.qspi.proofs.Qspi.write_spcr1.Statement.{statement}
 use Rattle.qspi.proofs.Qspi.write_spcr1.Tie as tie
 

@@ -1,5 +1,5 @@
 use borrow.Author.Needs.{needs}
-use Rattle.qspi.specs.Entry.{collectedAfter}
+use Rattle.qspi.specs.model.Entry.{collectedAfter}
 use Rattle.qspi.proofs.entry.collected_after.Statement.{statement}
 use Rattle.qspi.proofs.entry.collected_after.Tie as tie
 

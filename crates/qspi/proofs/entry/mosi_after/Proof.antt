@@ -1,5 +1,5 @@
 use borrow.Author.Needs.{needs}
-use Rattle.qspi.specs.Entry.{mosiAfter}
+use Rattle.qspi.specs.model.Entry.{mosiAfter}
 use Rattle.qspi.proofs.entry.mosi_after.Statement.{statement}
 use Rattle.qspi.proofs.entry.mosi_after.Tie as tie
 

@@ -1,5 +1,5 @@
 use borrow.Author.Needs.{needs}
-use Rattle.qspi.specs.Falls.{mosiSince}
+use Rattle.qspi.specs.quick.Falls.{mosiSince}
 use Rattle.qspi.proofs.falls.mosi_since.Statement.{statement}
 use Rattle.qspi.proofs.falls.mosi_since.Tie as tie
 

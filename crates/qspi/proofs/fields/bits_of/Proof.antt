@@ -1,5 +1,5 @@
 use borrow.Author.Needs.{needs}
-use Rattle.qspi.specs.Fields.{bitsOf}
+use Rattle.qspi.specs.model.Fields.{bitsOf}
 use Rattle.qspi.proofs.fields.bits_of.Statement.{statement}
 use Rattle.qspi.proofs.fields.bits_of.Tie as tie
 

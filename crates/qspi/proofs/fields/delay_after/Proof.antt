@@ -1,5 +1,5 @@
 use borrow.Author.Needs.{needs}
-use Rattle.qspi.specs.Fields.{delayAfter}
+use Rattle.qspi.specs.model.Fields.{delayAfter}
 use Rattle.qspi.proofs.fields.delay_after.Statement.{statement}
 use Rattle.qspi.proofs.fields.delay_after.Tie as tie
 

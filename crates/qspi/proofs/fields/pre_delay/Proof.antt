@@ -1,5 +1,5 @@
 use borrow.Author.Needs.{needs}
-use Rattle.qspi.specs.Fields.{preDelay}
+use Rattle.qspi.specs.model.Fields.{preDelay}
 use Rattle.qspi.proofs.fields.pre_delay.Statement.{statement}
 use Rattle.qspi.proofs.fields.pre_delay.Tie as tie
 

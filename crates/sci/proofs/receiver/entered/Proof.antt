@@ -1,4 +1,4 @@
-use Rattle.sci.specs.Receiver.{entered}
+use Rattle.sci.specs.model.Receiver.{entered}
 use borrow.Author.Needs.{needs}
 use Rattle.sci.proofs.receiver.entered.Statement.{statement}
 use Rattle.sci.proofs.receiver.entered.Tie as tie

@@ -1,4 +1,4 @@
-use Rattle.sci.specs.Receiver.{raised}
+use Rattle.sci.specs.model.Receiver.{raised}
 use borrow.Author.Needs.{needs}
 use Rattle.sci.proofs.receiver.raised.Statement.{statement}
 use Rattle.sci.proofs.receiver.raised.Tie as tie

@@ -1,4 +1,4 @@
-use Rattle.sci.specs.Receiver.{statusAfter}
+use Rattle.sci.specs.model.Receiver.{statusAfter}
 use borrow.Author.Needs.{needs}
 use Rattle.sci.proofs.receiver.status_after.Statement.{statement}
 use Rattle.sci.proofs.receiver.status_after.Tie as tie

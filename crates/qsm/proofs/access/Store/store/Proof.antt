@@ -1,4 +1,4 @@
-use Rattle.qsm.specs.Access.{store}
+use Rattle.qsm.specs.model.Access.{store}
 use borrow.Author.Needs.{needs}
 use Rattle.qsm.proofs.access.Store.store.Statement.{statement}
 use Rattle.qsm.proofs.access.Store.store.Tie as tie

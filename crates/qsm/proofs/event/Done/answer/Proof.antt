@@ -1,4 +1,4 @@
-use Rattle.qsm.specs.Event.{answerOf}
+use Rattle.qsm.specs.model.Event.{answerOf}
 use borrow.Author.Needs.{needs}
 use Rattle.qsm.proofs.event.Done.answer.Statement.{statement}
 use Rattle.qsm.proofs.event.Done.answer.Tie as tie

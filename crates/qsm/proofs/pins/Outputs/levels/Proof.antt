@@ -1,4 +1,4 @@
-use Rattle.qsm.specs.Pins.{levels}
+use Rattle.qsm.specs.model.Pins.{levels}
 use borrow.Author.Needs.{needs}
 use Rattle.qsm.proofs.pins.Outputs.levels.Statement.{statement}
 use Rattle.qsm.proofs.pins.Outputs.levels.Tie as tie

@@ -1,4 +1,4 @@
-use Rattle.qsm.specs.Pins.{mask}
+use Rattle.qsm.specs.model.Pins.{mask}
 use borrow.Author.Needs.{needs}
 use Rattle.qsm.proofs.pins.Outputs.mask.Statement.{statement}
 use Rattle.qsm.proofs.pins.Outputs.mask.Tie as tie

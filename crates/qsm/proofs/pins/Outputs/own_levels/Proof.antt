@@ -1,4 +1,4 @@
-use Rattle.qsm.specs.Pins.{ownLevels}
+use Rattle.qsm.specs.model.Pins.{ownLevels}
 use borrow.Author.Needs.{needs}
 use Rattle.qsm.proofs.pins.Outputs.own_levels.Statement.{statement}
 use Rattle.qsm.proofs.pins.Outputs.own_levels.Tie as tie

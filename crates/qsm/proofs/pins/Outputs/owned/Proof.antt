@@ -1,4 +1,4 @@
-use Rattle.qsm.specs.Pins.{owned}
+use Rattle.qsm.specs.model.Pins.{owned}
 use borrow.Author.Needs.{needs}
 use Rattle.qsm.proofs.pins.Outputs.owned.Statement.{statement}
 use Rattle.qsm.proofs.pins.Outputs.owned.Tie as tie

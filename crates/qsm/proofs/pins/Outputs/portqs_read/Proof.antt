@@ -1,4 +1,4 @@
-use Rattle.qsm.specs.Pins.{portqsRead}
+use Rattle.qsm.specs.model.Pins.{portqsRead}
 use borrow.Author.Needs.{needs}
 use Rattle.qsm.proofs.pins.Outputs.portqs_read.Statement.{statement}
 use Rattle.qsm.proofs.pins.Outputs.portqs_read.Tie as tie

@@ -1,4 +1,4 @@
-use Rattle.qsm.specs.Decision.{admitted}
+use Rattle.qsm.specs.model.Decision.{admitted}
 use borrow.Author.Needs.{needs}
 use Rattle.qsm.proofs.state.Module.admitted.Statement.{statement}
 use Rattle.qsm.proofs.state.Module.admitted.Tie as tie

@@ -1,4 +1,4 @@
-use Rattle.qsm.specs.Event.{afterRead}
+use Rattle.qsm.specs.model.Event.{afterRead}
 use borrow.Author.Needs.{needs}
 use Rattle.qsm.proofs.state.Module.after_read.Statement.{statement}
 use Rattle.qsm.proofs.state.Module.after_read.Tie as tie

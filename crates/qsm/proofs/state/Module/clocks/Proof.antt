@@ -4,10 +4,10 @@ use native.Mathlib.Omega.{arith}
 use borrow.Author.Needs.{needs}
 use Rattle.steps.specs.Iterate.{iterate}
 use Rattle.steps.proofs.Iterate.{iterate-fixed}
-use Rattle.qspi.specs.Queue.{clock}
+use Rattle.qspi.specs.model.Queue.{clock}
 use Rattle.qspi.proofs.Quiet.{clock-off}
-use Rattle.qsm.specs.State.{withQspi}
-use Rattle.qsm.specs.Event.{pinsOf, clocks}
+use Rattle.qsm.specs.model.State.{withQspi}
+use Rattle.qsm.specs.model.Event.{pinsOf, clocks}
 use Rattle.qsm.specs.declared.state.Module.{Module}
 use Rattle.qsm.proofs.Clocks.{apart}
 use Rattle.qsm.proofs.state.Module.clocks.Statement.{statement}

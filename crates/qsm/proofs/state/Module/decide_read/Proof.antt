@@ -1,4 +1,4 @@
-use Rattle.qsm.specs.Decision.{decideRead}
+use Rattle.qsm.specs.model.Decision.{decideRead}
 use borrow.Author.Needs.{needs}
 use Rattle.qsm.proofs.state.Module.decide_read.Statement.{statement}
 use Rattle.qsm.proofs.state.Module.decide_read.Tie as tie

@@ -1,4 +1,4 @@
-use Rattle.qsm.specs.Decision.{decideStored}
+use Rattle.qsm.specs.model.Decision.{decideStored}
 use borrow.Author.Needs.{needs}
 use Rattle.qsm.proofs.state.Module.decide_write.Statement.{statement}
 use Rattle.qsm.proofs.state.Module.decide_write.Tie as tie

@@ -1,4 +1,4 @@
-use Rattle.qsm.specs.Event.{does, resets}
+use Rattle.qsm.specs.model.Event.{does, resets}
 use borrow.Author.Needs.{needs}
 use Rattle.qsm.proofs.state.Module.does.Statement.{statement}
 use Rattle.qsm.proofs.state.Module.does.Tie as tie

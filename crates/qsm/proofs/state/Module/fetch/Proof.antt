@@ -1,4 +1,4 @@
-use Rattle.qsm.specs.Access.{fetch}
+use Rattle.qsm.specs.model.Access.{fetch}
 use borrow.Author.Needs.{needs}
 use Rattle.qsm.proofs.state.Module.fetch.Statement.{statement}
 use Rattle.qsm.proofs.state.Module.fetch.Tie as tie

@@ -4,7 +4,7 @@ use native.Mathlib.Nat.{le-antisymm}
 use native.Mathlib.Numerals.{add-one}
 use borrow.Author.Needs.{needs}
 use Rattle.steps.specs.Iterate.{iterate}
-use Rattle.qsm.specs.Access.{fetch, fetched}
+use Rattle.qsm.specs.model.Access.{fetch, fetched}
 use Rattle.qsm.proofs.state.Module.fetched.Statement.{statement}
 use Rattle.qsm.proofs.state.Module.fetched.Tie as tie
 

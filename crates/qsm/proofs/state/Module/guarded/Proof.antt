@@ -1,4 +1,4 @@
-use Rattle.qsm.specs.Word.{guarded}
+use Rattle.qsm.specs.model.Word.{guarded}
 use borrow.Author.Needs.{needs}
 use Rattle.qsm.proofs.state.Module.guarded.Statement.{statement}
 use Rattle.qsm.proofs.state.Module.guarded.Tie as tie

@@ -1,6 +1,6 @@
 use mathlib.Core.Bool.{true, false}
 use mathlib.Core.Path.{_≡_, sym, _∙_}
-use Rattle.qsm.specs.Event.{passes, holds}
+use Rattle.qsm.specs.model.Event.{passes, holds}
 use borrow.Author.Needs.{needs}
 use Rattle.qsm.proofs.Limit.{has-room}
 use Rattle.qsm.proofs.state.Module.holds.Statement.{statement}

@@ -1,6 +1,6 @@
 use native.Mathlib.Omega.{arith}
 use borrow.Author.Needs.{needs}
-use Rattle.qsm.specs.Event.{clockLimit}
+use Rattle.qsm.specs.model.Event.{clockLimit}
 use Rattle.qsm.proofs.Limit.{moved}
 use Rattle.qsm.proofs.state.Module.passes.Statement.{statement}
 use Rattle.qsm.proofs.state.Module.passes.Tie as tie

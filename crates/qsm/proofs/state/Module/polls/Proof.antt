@@ -1,4 +1,4 @@
-use Rattle.qsm.specs.Event.{reads}
+use Rattle.qsm.specs.model.Event.{reads}
 use borrow.Author.Needs.{needs}
 use Rattle.qsm.proofs.state.Module.polls.Statement.{statement}
 use Rattle.qsm.proofs.state.Module.polls.Tie as tie

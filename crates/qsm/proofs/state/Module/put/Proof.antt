@@ -1,4 +1,4 @@
-use Rattle.qsm.specs.Word.{put}
+use Rattle.qsm.specs.model.Word.{put}
 use borrow.Author.Needs.{needs}
 use Rattle.qsm.proofs.state.Module.put.Statement.{statement}
 use Rattle.qsm.proofs.state.Module.put.Tie as tie

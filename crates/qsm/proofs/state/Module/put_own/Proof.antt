@@ -1,4 +1,4 @@
-use Rattle.qsm.specs.Own.{putOwn}
+use Rattle.qsm.specs.model.Own.{putOwn}
 use borrow.Author.Needs.{needs}
 use Rattle.qsm.proofs.state.Module.put_own.Statement.{statement}
 use Rattle.qsm.proofs.state.Module.put_own.Tie as tie

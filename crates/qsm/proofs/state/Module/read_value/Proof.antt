@@ -1,4 +1,4 @@
-use Rattle.qsm.specs.Event.{readValue}
+use Rattle.qsm.specs.model.Event.{readValue}
 use borrow.Author.Needs.{needs}
 use Rattle.qsm.proofs.state.Module.read_value.Statement.{statement}
 use Rattle.qsm.proofs.state.Module.read_value.Tie as tie

@@ -1,4 +1,4 @@
-use Rattle.qsm.specs.Event.{refused}
+use Rattle.qsm.specs.model.Event.{refused}
 use borrow.Author.Needs.{needs}
 use Rattle.qsm.proofs.state.Module.refused.Statement.{statement}
 use Rattle.qsm.proofs.state.Module.refused.Tie as tie

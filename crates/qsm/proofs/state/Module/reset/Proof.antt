@@ -1,4 +1,4 @@
-use Rattle.qsm.specs.State.{resetModule}
+use Rattle.qsm.specs.model.State.{resetModule}
 use borrow.Author.Needs.{needs}
 use Rattle.qsm.proofs.state.Module.reset.Statement.{statement}
 use Rattle.qsm.proofs.state.Module.reset.Tie as tie

@@ -1,4 +1,4 @@
-use Rattle.qsm.specs.Decision.{storedBy}
+use Rattle.qsm.specs.model.Decision.{storedBy}
 use borrow.Author.Needs.{needs}
 use Rattle.qsm.proofs.state.Module.stored_by.Statement.{statement}
 use Rattle.qsm.proofs.state.Module.stored_by.Tie as tie

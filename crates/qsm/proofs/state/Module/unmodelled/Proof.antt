@@ -1,4 +1,4 @@
-use Rattle.qsm.specs.Word.{unmodelled}
+use Rattle.qsm.specs.model.Word.{unmodelled}
 use borrow.Author.Needs.{needs}
 use Rattle.qsm.proofs.state.Module.unmodelled.Statement.{statement}
 use Rattle.qsm.proofs.state.Module.unmodelled.Tie as tie

@@ -1,4 +1,4 @@
-use Rattle.qsm.specs.Event.{readValue}
+use Rattle.qsm.specs.model.Event.{readValue}
 use borrow.Author.Needs.{needs}
 use Rattle.qsm.proofs.state.Module.value_if.Statement.{statement}
 use Rattle.qsm.proofs.state.Module.value_if.Tie as tie

@@ -1,4 +1,4 @@
-use Rattle.qsm.specs.Event.{writes}
+use Rattle.qsm.specs.model.Event.{writes}
 use borrow.Author.Needs.{needs}
 use Rattle.qsm.proofs.state.Module.writes.Statement.{statement}
 use Rattle.qsm.proofs.state.Module.writes.Tie as tie

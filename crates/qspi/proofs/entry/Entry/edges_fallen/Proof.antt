@@ -1,7 +1,7 @@
 use Prim.Native.Nat.{_%_}
 use borrow.Author.Needs.{needs}
 use borrow.Author.Tests.{lt-ltb, le-ltb}
-use Rattle.qspi.specs.Falls.{edgesFallen}
+use Rattle.qspi.specs.quick.Falls.{edgesFallen}
 use Rattle.qspi.proofs.entry.Entry.edges_fallen.Statement.{statement}
 use Rattle.qspi.proofs.entry.Entry.edges_fallen.Tie as tie
 

@@ -1,5 +1,5 @@
 use borrow.Author.Tests.{ne-eqb}
-use Rattle.sci.specs.Framer.{dataBit}
+use Rattle.sci.specs.model.Framer.{dataBit}
 use borrow.Author.Needs.{needs}
 use Rattle.sci.proofs.framer.Framer.data_bit.Statement.{statement}
 use Rattle.sci.proofs.framer.Framer.data_bit.Tie as tie

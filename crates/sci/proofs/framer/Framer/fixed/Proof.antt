@@ -1,4 +1,4 @@
-use Rattle.sci.specs.Framer.{fixed}
+use Rattle.sci.specs.model.Framer.{fixed}
 use borrow.Author.Needs.{needs}
 use Rattle.sci.proofs.framer.Framer.fixed.Statement.{statement}
 use Rattle.sci.proofs.framer.Framer.fixed.Tie as tie

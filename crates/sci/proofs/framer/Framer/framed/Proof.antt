@@ -1,4 +1,4 @@
-use Rattle.sci.specs.Framer.{framed}
+use Rattle.sci.specs.model.Framer.{framed}
 use borrow.Author.Needs.{needs}
 use Rattle.sci.proofs.framer.Framer.framed.Statement.{statement}
 use Rattle.sci.proofs.framer.Framer.framed.Tie as tie

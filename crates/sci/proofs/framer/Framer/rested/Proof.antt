@@ -1,4 +1,4 @@
-use Rattle.sci.specs.Plain.{rested}
+use Rattle.sci.specs.quick.Plain.{rested}
 use borrow.Author.Needs.{needs}
 use Rattle.sci.proofs.framer.Framer.rested.Statement.{statement}
 use Rattle.sci.proofs.framer.Framer.rested.Tie as tie

@@ -1,4 +1,4 @@
-use Rattle.sci.specs.Plain.{rests}
+use Rattle.sci.specs.quick.Plain.{rests}
 use borrow.Author.Needs.{needs}
 use Rattle.sci.proofs.framer.Framer.rests.Statement.{statement}
 use Rattle.sci.proofs.framer.Framer.rests.Tie as tie

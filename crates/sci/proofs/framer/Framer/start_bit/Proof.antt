@@ -1,5 +1,5 @@
 use borrow.Author.Tests.{ne-eqb}
-use Rattle.sci.specs.Framer.{startBit}
+use Rattle.sci.specs.model.Framer.{startBit}
 use Rattle.sci.proofs.Votes.{judged-ones}
 use borrow.Author.Needs.{needs}
 use Rattle.sci.proofs.framer.Framer.start_bit.Statement.{statement}

@@ -1,5 +1,5 @@
 use borrow.Author.Tests.{ne-eqb}
-use Rattle.sci.specs.Framer.{stopBit}
+use Rattle.sci.specs.model.Framer.{stopBit}
 use borrow.Author.Needs.{needs}
 use Rattle.sci.proofs.framer.Framer.stop_bit.Statement.{statement}
 use Rattle.sci.proofs.framer.Framer.stop_bit.Tie as tie

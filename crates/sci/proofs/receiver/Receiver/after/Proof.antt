@@ -1,4 +1,4 @@
-use Rattle.sci.specs.Receiver.{receiverAfter}
+use Rattle.sci.specs.model.Receiver.{receiverAfter}
 use borrow.Author.Needs.{needs}
 use Rattle.sci.proofs.receiver.Receiver.after.Statement.{statement}
 use Rattle.sci.proofs.receiver.Receiver.after.Tie as tie

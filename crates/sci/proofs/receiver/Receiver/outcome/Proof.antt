@@ -1,4 +1,4 @@
-use Rattle.sci.specs.Receiver.{outcome}
+use Rattle.sci.specs.model.Receiver.{outcome}
 use borrow.Author.Needs.{needs}
 use Rattle.sci.proofs.receiver.Receiver.outcome.Statement.{statement}
 use Rattle.sci.proofs.receiver.Receiver.outcome.Tie as tie

@@ -1,4 +1,4 @@
-use Rattle.sci.specs.Plain.{passed}
+use Rattle.sci.specs.quick.Plain.{passed}
 use borrow.Author.Needs.{needs}
 use Rattle.sci.proofs.receiver.Receiver.passed.Statement.{statement}
 use Rattle.sci.proofs.receiver.Receiver.passed.Tie as tie

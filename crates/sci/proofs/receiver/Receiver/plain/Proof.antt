@@ -1,4 +1,4 @@
-use Rattle.sci.specs.Plain.{plain}
+use Rattle.sci.specs.quick.Plain.{plain}
 use borrow.Author.Needs.{needs}
 use Rattle.sci.proofs.receiver.Receiver.plain.Statement.{statement}
 use Rattle.sci.proofs.receiver.Receiver.plain.Tie as tie

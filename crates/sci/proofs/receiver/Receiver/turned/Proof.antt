@@ -1,4 +1,4 @@
-use Rattle.sci.specs.Receiver.{received}
+use Rattle.sci.specs.model.Receiver.{received}
 use borrow.Author.Needs.{needs}
 use Rattle.sci.proofs.Plain.{if-taken}
 use Rattle.sci.proofs.receiver.Receiver.turned.Statement.{statement}

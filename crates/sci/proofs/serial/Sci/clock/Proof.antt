@@ -1,4 +1,4 @@
-use Rattle.sci.specs.Serial.{clocked}
+use Rattle.sci.specs.model.Serial.{clocked}
 use borrow.Author.Needs.{needs}
 use Rattle.sci.proofs.serial.Sci.clock.Statement.{statement}
 use Rattle.sci.proofs.serial.Sci.clock.Tie as tie

@@ -5,8 +5,8 @@ use mathlib.Core.Logic.{⊎-elim}
 use native.Mathlib.Omega.{arith}
 use borrow.Author.Needs.{needs}
 use Rattle.steps.specs.Iterate.{iterate}
-use Rattle.sci.specs.Serial.{clocked}
-use Rattle.sci.specs.Quiet.{quiet}
+use Rattle.sci.specs.model.Serial.{clocked}
+use Rattle.sci.specs.quick.Quiet.{quiet}
 use Rattle.sci.proofs.Quiet.{skips, turn, restarts}
 use Rattle.sci.proofs.Rest.{shortened-less, shortens}
 use Rattle.sci.proofs.serial.Sci.clocks.Statement.{statement}

@@ -1,5 +1,5 @@
 use borrow.Author.Needs.{needs}
-use Rattle.sci.specs.Quiet.{quiet}
+use Rattle.sci.specs.quick.Quiet.{quiet}
 use Rattle.sci.proofs.serial.Sci.quiet.Statement.{statement}
 use Rattle.sci.proofs.serial.Sci.quiet.Tie as tie
 

@@ -1,5 +1,5 @@
 use borrow.Author.Needs.{needs}
-use Rattle.sci.specs.Quiet.{rests}
+use Rattle.sci.specs.quick.Quiet.{rests}
 use Rattle.sci.proofs.serial.Sci.rests.Statement.{statement}
 use Rattle.sci.proofs.serial.Sci.rests.Tie as tie
 

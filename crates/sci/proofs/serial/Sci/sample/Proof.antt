@@ -1,5 +1,5 @@
 use borrow.Author.Needs.{needs}
-use Rattle.sci.specs.Serial.{sampled}
+use Rattle.sci.specs.model.Serial.{sampled}
 use Rattle.sci.proofs.Plain.{samples}
 use Rattle.sci.proofs.serial.Sci.sample.Statement.{statement}
 use Rattle.sci.proofs.serial.Sci.sample.Tie as tie

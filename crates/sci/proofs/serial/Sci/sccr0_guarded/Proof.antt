@@ -1,4 +1,4 @@
-use Rattle.sci.specs.Serial.{sccr0Guarded}
+use Rattle.sci.specs.model.Serial.{sccr0Guarded}
 use borrow.Author.Needs.{needs}
 use Rattle.sci.proofs.serial.Sci.sccr0_guarded.Statement.{statement}
 use Rattle.sci.proofs.serial.Sci.sccr0_guarded.Tie as tie

@@ -1,4 +1,4 @@
-use Rattle.sci.specs.Serial.{sccr1Guarded}
+use Rattle.sci.specs.model.Serial.{sccr1Guarded}
 use borrow.Author.Needs.{needs}
 use Rattle.sci.proofs.serial.Sci.sccr1_guarded.Statement.{statement}
 use Rattle.sci.proofs.serial.Sci.sccr1_guarded.Tie as tie

@@ -1,5 +1,5 @@
 use borrow.Author.Needs.{needs}
-use Rattle.sci.specs.Quiet.{skipped}
+use Rattle.sci.specs.quick.Quiet.{skipped}
 use Rattle.sci.proofs.serial.Sci.skipped.Statement.{statement}
 use Rattle.sci.proofs.serial.Sci.skipped.Tie as tie
 

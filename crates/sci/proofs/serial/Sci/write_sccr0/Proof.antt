@@ -1,4 +1,4 @@
-use Rattle.sci.specs.Serial.{wroteSccr0}
+use Rattle.sci.specs.model.Serial.{wroteSccr0}
 use borrow.Author.Needs.{needs}
 use Rattle.sci.proofs.serial.Sci.write_sccr0.Statement.{statement}
 use Rattle.sci.proofs.serial.Sci.write_sccr0.Tie as tie

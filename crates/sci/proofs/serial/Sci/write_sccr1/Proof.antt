@@ -1,4 +1,4 @@
-use Rattle.sci.specs.Serial.{wroteSccr1}
+use Rattle.sci.specs.model.Serial.{wroteSccr1}
 use borrow.Author.Needs.{needs}
 use Rattle.sci.proofs.serial.Sci.write_sccr1.Statement.{statement}
 use Rattle.sci.proofs.serial.Sci.write_sccr1.Tie as tie

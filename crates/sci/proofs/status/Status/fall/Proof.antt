@@ -1,4 +1,4 @@
-use Rattle.sci.specs.Status.{fall}
+use Rattle.sci.specs.model.Status.{fall}
 use borrow.Author.Needs.{needs}
 use Rattle.sci.proofs.status.Status.fall.Statement.{statement}
 use Rattle.sci.proofs.status.Status.fall.Tie as tie

@@ -1,4 +1,4 @@
-use Rattle.sci.specs.Status.{fallIf}
+use Rattle.sci.specs.model.Status.{fallIf}
 use borrow.Author.Needs.{needs}
 use Rattle.sci.proofs.status.Status.fall_if.Statement.{statement}
 use Rattle.sci.proofs.status.Status.fall_if.Tie as tie

@@ -1,4 +1,4 @@
-use Rattle.sci.specs.Status.{fallSeen}
+use Rattle.sci.specs.model.Status.{fallSeen}
 use borrow.Author.Needs.{needs}
 use Rattle.sci.proofs.status.Status.fall_seen.Statement.{statement}
 use Rattle.sci.proofs.status.Status.fall_seen.Tie as tie

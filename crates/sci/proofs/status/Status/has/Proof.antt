@@ -1,4 +1,4 @@
-use Rattle.sci.specs.Status.{has}
+use Rattle.sci.specs.model.Status.{has}
 use borrow.Author.Needs.{needs}
 use Rattle.sci.proofs.status.Status.has.Statement.{statement}
 use Rattle.sci.proofs.status.Status.has.Tie as tie

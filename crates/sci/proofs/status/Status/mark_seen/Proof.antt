@@ -1,4 +1,4 @@
-use Rattle.sci.specs.Status.{markSeen}
+use Rattle.sci.specs.model.Status.{markSeen}
 use borrow.Author.Needs.{needs}
 use Rattle.sci.proofs.status.Status.mark_seen.Statement.{statement}
 use Rattle.sci.proofs.status.Status.mark_seen.Tie as tie

@@ -1,4 +1,4 @@
-use Rattle.sci.specs.Status.{raise}
+use Rattle.sci.specs.model.Status.{raise}
 use borrow.Author.Needs.{needs}
 use Rattle.sci.proofs.status.Status.raise.Statement.{statement}
 use Rattle.sci.proofs.status.Status.raise.Tie as tie

@@ -1,4 +1,4 @@
-use Rattle.sci.specs.Status.{raiseIf}
+use Rattle.sci.specs.model.Status.{raiseIf}
 use borrow.Author.Needs.{needs}
 use Rattle.sci.proofs.status.Status.raise_if.Statement.{statement}
 use Rattle.sci.proofs.status.Status.raise_if.Tie as tie

@@ -1,4 +1,4 @@
-use Rattle.sci.specs.Plain.{shifted}
+use Rattle.sci.specs.quick.Plain.{shifted}
 use borrow.Author.Needs.{needs}
 use Rattle.sci.proofs.transmitter.Transmitter.shifted.Statement.{statement}
 use Rattle.sci.proofs.transmitter.Transmitter.shifted.Tie as tie

@@ -1,4 +1,4 @@
-use Rattle.sci.specs.Transmitter.{sent}
+use Rattle.sci.specs.model.Transmitter.{sent}
 use Rattle.sci.proofs.transmitter.Transmitter.turned.Statement.{statement}
 use Rattle.sci.proofs.transmitter.Transmitter.turned.Tie as tie
 

@@ -1,4 +1,4 @@
-use Rattle.sci.specs.Plain.{turns}
+use Rattle.sci.specs.quick.Plain.{turns}
 use borrow.Author.Needs.{needs}
 use Rattle.sci.proofs.transmitter.Transmitter.turns.Statement.{statement}
 use Rattle.sci.proofs.transmitter.Transmitter.turns.Tie as tie

@@ -1,4 +1,0 @@
-pub mod Words
-pub mod Arrival
-pub mod Tally
-pub mod Shown

@@ -1,0 +1,39 @@
+use Prim.Native.Nat.{_≤_, _-_}
+use borrow.Author.Needs.{needs}
+use Rattle.cases_sci.proofs.show.ones.Statement.{statement}
+use Rattle.cases_sci.proofs.show.ones.Tie as tie
+
+abbrev Inv-loop : tie.InvT-loop
+Inv-loop next₀ n₀ i₀ next n i = i ≤ 16
+
+abbrev μ-loop : tie.MeasureT-loop
+μ-loop next₀ n₀ i₀ next n i = 16 - i
+
+loop-holds : tie.Need-loop-holds Inv-loop μ-loop
+loop-holds c = search needs
+
+sample-requires : tie.Need-sample-requires Inv-loop μ-loop
+sample-requires c κs = search needs
+
+txd-requires : tie.Need-txd-requires Inv-loop μ-loop
+txd-requires c κs = search needs
+
+more-requires : tie.Need-more-requires Inv-loop μ-loop
+more-requires c κs = search needs
+
+add-i : tie.Need-add-i Inv-loop μ-loop
+add-i c = search needs
+
+loop-less : tie.Need-loop-less Inv-loop μ-loop
+loop-less c = search needs
+
+loop-again : tie.Need-loop-again Inv-loop μ-loop
+loop-again c = search needs
+
+returns : tie.Need-returns Inv-loop μ-loop
+returns c = search needs
+
+pub ones-spec : {M : Type 1} → statement M
+ones-spec =
+    tie.close
+    (tie.spec Inv-loop μ-loop loop-holds sample-requires txd-requires more-requires add-i loop-less loop-again returns)

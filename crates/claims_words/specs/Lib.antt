@@ -1,0 +1,4 @@
+pub mod Words
+pub mod Arrival
+pub mod Tally
+pub mod Claims

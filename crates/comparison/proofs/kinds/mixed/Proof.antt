@@ -1,9 +1,0 @@
-use borrow.Author.Needs.{needs}
-use Rattle.comparison.proofs.kinds.mixed.Statement.{statement}
-use Rattle.comparison.proofs.kinds.mixed.Tie as tie
-
-returns : tie.Need-returns
-returns c = rw (c .answers-begun .ensures, c .before .first-other .ensures)
-
-pub mixed-spec : {M : Type 1} → statement M
-mixed-spec = tie.close (tie.spec (λ c κs. search needs) (λ c κs. search needs) returns)

@@ -1,4 +1,0 @@
-pub mod Verdict
-pub mod Judge
-pub mod Numbers
-pub mod Laws

@@ -1,7 +1,0 @@
-pub mod Records
-pub mod Walk
-pub mod Marks
-pub mod Find
-pub mod Stored
-pub mod Laws
-pub mod Shown

@@ -1,0 +1,12 @@
+pub mod Map
+pub mod State
+pub mod Pins
+pub mod Request
+pub mod Own
+pub mod Serial
+pub mod Queue
+pub mod Word
+pub mod Lanes
+pub mod Access
+pub mod Decision
+pub mod Event

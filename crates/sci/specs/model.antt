@@ -1,0 +1,9 @@
+pub mod Flags
+pub mod Status
+pub mod Control
+pub mod Bits
+pub mod Framer
+pub mod Receiver
+pub mod Account
+pub mod Transmitter
+pub mod Serial

@@ -1,6 +1,0 @@
-pub mod Records
-pub mod Rules
-pub mod Contents
-pub mod Editions
-pub mod Laws
-pub mod Shown

@@ -1,0 +1,6 @@
+pub mod Answer
+pub mod Kind
+pub mod Compare
+pub mod Laws
+pub mod Pieces
+pub mod Claims

@@ -1,0 +1,9 @@
+pub mod Poll
+pub mod Schedule
+pub mod Gather
+pub mod Replay
+pub mod Noise
+pub mod Call
+pub mod Laws
+pub mod Pieces
+pub mod Claims

@@ -1,0 +1,9 @@
+pub mod Check
+pub mod Accepted
+pub mod Quickest
+pub mod Laws
+pub mod Loading
+pub mod Writes
+pub mod Running
+pub mod Example
+pub mod Claims

@@ -1,8 +1,0 @@
-use mathlib.Core.Path.{sym}
-use lib.Seq.{length-take-le}
-use borrow.Author.Needs.{needs}
-use Rattle.trace_cases.proofs.parse.first.Statement.{statement}
-use Rattle.trace_cases.proofs.parse.first.Tie as tie
-
-pub first-spec : {M : Type 1} → statement M
-first-spec = tie.close (tie.spec (λ c. sym (length-take-le _ _ (search needs))) (λ c. search needs) (λ c. search needs))

@@ -1,6 +1,0 @@
-pub mod View
-pub mod Probe
-pub mod Drawn
-pub mod Turn
-pub mod Vcd
-pub mod Laws
