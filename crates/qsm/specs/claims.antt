@@ -1,3 +1,4 @@
+-- What is claimed of the model of the module, as a host sees it.
 pub mod Holds
 pub mod Count
 pub mod StatusFlags
@@ -6,3 +7,4 @@ pub mod PinClauses
 pub mod SeenClauses
 pub mod Registers
 pub mod Witness
+pub mod Claims

@@ -1,3 +1,4 @@
+-- What the rules say of the module: register map, refusals, pins, requests, events. This is what a reader must believe.
 pub mod Map
 pub mod State
 pub mod Pins

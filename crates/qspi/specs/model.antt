@@ -1,3 +1,4 @@
+-- What the rules say of the queue half. This is what a reader must believe.
 pub mod Parts
 pub mod Fields
 pub mod Spsr

@@ -1,3 +1,4 @@
+-- What is claimed of the model of the serial half: the clauses said otherwise than the model says them, and the demands over histories.
 pub mod Members
 pub mod Marked
 pub mod Line
@@ -23,3 +24,4 @@ pub mod Figure
 pub mod Moves
 pub mod Balance
 pub mod Losing
+pub mod Claims

@@ -1,3 +1,4 @@
+-- What the rules say of the serial half, in document 01's order. This is what a reader must believe.
 pub mod Flags
 pub mod Status
 pub mod Control

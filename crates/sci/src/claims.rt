@@ -1,7 +1,7 @@
 // All that is claimed of the definitions.
 ghost use mathlib.Core.Path.{_≡_};
 ghost use mathlib.Core.Bool.{true};
-ghost use Rattle.sci.specs.Claims.{Claims};
+ghost use Rattle.sci.specs.claims.Claims.{Claims};
 
 // Nothing to compute: the contract is the record of the claims, so that none of them can be left out unnoticed.
 // Ruled out: RAF left set by an abandoned start; OR that asks for nothing without RDRF; bits sent highest first; a receiver that keeps a trace
