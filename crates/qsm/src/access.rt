@@ -24,7 +24,7 @@ pub struct Store {
 pub(crate) fn next(at: u16) -> u16
     ensures { λ r. ⌜ r ≡ next at ⌝ }
 {
-    (((at as u32) + 2) % 65536) as u16
+    (((at as u32) + 2) % 0x10000) as u16
 }
 
 impl Store {
@@ -33,11 +33,11 @@ impl Store {
     {
         let m = self.state;
         let p = decode(self.at as u32);
-        let v = (self.words / 65536) as u16;
+        let v = (self.words / 0x10000) as u16;
         Store {
             state: m.put(p, v, upper, lower),
             at: next(self.at),
-            words: self.words % 65536 * 65536,
+            words: self.words % 0x10000 * 0x10000,
             unmodelled: self.unmodelled | m.unmodelled(p, v, upper, lower),
             guarded: self.guarded | m.guarded(p, v, upper, lower),
         }
@@ -52,7 +52,7 @@ impl Module {
         let word = self.peek(decode(w.at as u32));
         Words {
             at: next(w.at),
-            words: w.words % 65536 * 65536 + (word as u32),
+            words: w.words % 0x10000 * 0x10000 + (word as u32),
         }
     }
 

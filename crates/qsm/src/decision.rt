@@ -46,7 +46,7 @@ pub fn fits(width: u8, value: u32) -> bool
 {
     match width {
         1 => value < 256,
-        2 => value < 65536,
+        2 => value < 0x10000,
         _ => true,
     }
 }

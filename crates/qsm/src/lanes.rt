@@ -78,8 +78,8 @@ pub fn lined(width: u8, value: u32) -> u32
     ensures { λ r. ⌜ r ≡ lined width value ⌝ }
 {
     match width {
-        1 => value % 256 * 16842752,
-        2 => value % 65536 * 65536,
+        1 => value % 256 * 0x01010000,
+        2 => value % 0x10000 * 0x10000,
         _ => value,
     }
 }

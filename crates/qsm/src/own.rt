@@ -55,7 +55,7 @@ impl Module {
         ensures { λ r. ⌜ r ≡ putDirections self v upper lower ⌝ }
     {
         let w = merge(word(self.pqspar, self.ddrqs), v, upper, lower);
-        self.pqspar = (w / 2048 % 16 * 8 + w / 256 % 4) as u8;
+        self.pqspar = (w / 0x800 % 16 * 8 + w / 256 % 4) as u8;
         self.ddrqs = (w % 256) as u8;
         self
     }
@@ -80,7 +80,7 @@ pub fn own_unmodelled(w: OwnWord, v: u16, upper: bool) -> bool
     ensures { λ r. ⌜ r ≡ ownUnmodelled w v upper ⌝ }
 {
     match w {
-        OwnWord::Qsmcr => upper & (v / 8192 % 8 != 0),
+        OwnWord::Qsmcr => upper & (v / 0x2000 % 8 != 0),
         OwnWord::QilrQivr => false,
         OwnWord::Portqs => false,
         OwnWord::PqsparDdrqs => false,

@@ -77,7 +77,7 @@ impl Module {
         let first = self.first_word(decode(offset as u32));
         if width == 4 {
             let second = self.second_word(decode(next(offset) as u32));
-            (first as u32) % 65536 * 65536 + (second as u32)
+            (first as u32) % 0x10000 * 0x10000 + (second as u32)
         } else {
             first as u32
         }

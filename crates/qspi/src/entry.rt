@@ -55,9 +55,9 @@ pub(crate) fn pushed(collected: u16, miso: bool) -> u16
     ensures { λ r. ⌜ r ≡ pushed collected miso ⌝ }
 {
     if miso {
-        collected % 32768 * 2 + 1
+        collected % 0x8000 * 2 + 1
     } else {
-        collected % 32768 * 2
+        collected % 0x8000 * 2
     }
 }
 

@@ -37,21 +37,21 @@ pub fn bit_0(x: u8) -> bool
 pub fn mstr(spcr0: u16) -> bool
     ensures { λ r. ⌜ r ≡ mstr spcr0 ⌝ }
 {
-    spcr0 / 32768 % 2 == 1
+    spcr0 / 0x8000 % 2 == 1
 }
 
 // Ruled out: CPHA's bit; always false.
 pub fn cpol(spcr0: u16) -> bool
     ensures { λ r. ⌜ r ≡ cpol spcr0 ⌝ }
 {
-    spcr0 / 512 % 2 == 1
+    spcr0 / 0x200 % 2 == 1
 }
 
 // Ruled out: CPOL's bit; always true, as after reset.
 pub fn cpha(spcr0: u16) -> bool
     ensures { λ r. ⌜ r ≡ cpha spcr0 ⌝ }
 {
-    spcr0 / 256 % 2 == 1
+    spcr0 / 0x100 % 2 == 1
 }
 
 // Ruled out: the upper byte; seven bits of it.
@@ -65,14 +65,14 @@ pub fn spbr(spcr0: u16) -> u16
 pub fn spe(spcr1: u16) -> bool
     ensures { λ r. ⌜ r ≡ spe spcr1 ⌝ }
 {
-    spcr1 / 32768 % 2 == 1
+    spcr1 / 0x8000 % 2 == 1
 }
 
 // Ruled out: another bit; the bit inverted.
 pub fn wren(spcr2: u16) -> bool
     ensures { λ r. ⌜ r ≡ wren spcr2 ⌝ }
 {
-    spcr2 / 16384 % 2 == 1
+    spcr2 / 0x4000 % 2 == 1
 }
 
 // Ruled out: another bit; the bit inverted.
@@ -101,7 +101,7 @@ fn zero_means(other: u16, x: u16) -> u16
 pub fn bits_of(spcr0: u16, command: u8) -> u16
     ensures { λ r. ⌜ r ≡ bitsOf spcr0 command ⌝ }
 {
-    choose_word(command / 64 % 2 == 1, zero_means(16, spcr0 / 1024 % 16), 8)
+    choose_word(command / 64 % 2 == 1, zero_means(16, spcr0 / 0x400 % 16), 8)
 }
 
 // Pre-delay p in clocks.

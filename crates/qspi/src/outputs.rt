@@ -44,7 +44,7 @@ impl Qspi {
     pub fn asks(self) -> bool
         ensures { λ r. ⌜ r ≡ asks self ⌝ }
     {
-        (self.spsr.flags.spif & (self.next.working / 32768 % 2 == 1))
+        (self.spsr.flags.spif & (self.next.working / 0x8000 % 2 == 1))
             | ((self.spsr.flags.modf | self.spsr.flags.halta) & (self.registers.spcr3 / 2 % 2 == 1))
     }
 }

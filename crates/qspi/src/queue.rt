@@ -29,7 +29,7 @@ pub struct Next {
 pub(crate) fn wrap_to(working: u16) -> u8
     ensures { λ r. ⌜ r ≡ wrapTo working ⌝ }
 {
-    choose(working / 8192 % 2 == 1, (working % 16) as u8, 0)
+    choose(working / 0x2000 % 2 == 1, (working % 16) as u8, 0)
 }
 
 impl Qspi {

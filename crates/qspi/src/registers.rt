@@ -30,7 +30,7 @@ impl Registers {
     pub fn disabled(mut self) -> Registers
         ensures { λ r. ⌜ r ≡ disabled self ⌝ }
     {
-        self.spcr1 = self.spcr1 % 32768;
+        self.spcr1 = self.spcr1 % 0x8000;
         self
     }
 }
@@ -39,22 +39,22 @@ impl Registers {
 fn spcr2_bits(w: u16) -> u16
     ensures { λ r. ⌜ r ≡ spcr2Bits w ⌝ }
 {
-    w / 8192 * 8192 + w / 256 % 16 * 256 + w % 16
+    w / 0x2000 * 0x2000 + w / 256 % 16 * 256 + w % 16
 }
 
 // Ruled out: WOMQ alone; BITS of 0 or 8; a write of the lower byte.
 pub fn spcr0_unmodelled(v: u16, upper: bool) -> bool
     ensures { λ r. ⌜ r ≡ spcr0Unmodelled v upper ⌝ }
 {
-    let bits = v / 1024 % 16;
-    upper & ((v / 16384 % 2 == 1) | ((1 <= bits) & (bits <= 7)))
+    let bits = v / 0x400 % 16;
+    upper & ((v / 0x4000 % 2 == 1) | ((1 <= bits) & (bits <= 7)))
 }
 
 // Ruled out: another bit; a write of the lower byte.
 pub fn spcr3_unmodelled(v: u16, upper: bool) -> bool
     ensures { λ r. ⌜ r ≡ spcr3Unmodelled v upper ⌝ }
 {
-    upper & (v / 1024 % 2 == 1)
+    upper & (v / 0x400 % 2 == 1)
 }
 
 impl Qspi {
@@ -234,7 +234,7 @@ impl Qspi {
         ensures { λ r. ⌜ r ≡ spcr1Guarded self v upper lower ⌝ }
     {
         spe(self.registers.spcr1)
-            & !(merge(self.registers.spcr1, v, upper, lower) % 32768
-                == self.registers.spcr1 % 32768)
+            & !(merge(self.registers.spcr1, v, upper, lower) % 0x8000
+                == self.registers.spcr1 % 0x8000)
     }
 }

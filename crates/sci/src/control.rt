@@ -6,42 +6,42 @@ ghost use Rattle.sci.specs.model.Control.{SCBR, ILT, PT, PE, M, WAKE, TI
 pub fn scbr(sccr0: u16) -> u16
     ensures { λ r. ⌜ r ≡ SCBR sccr0 ⌝ }
 {
-    sccr0 % 8192
+    sccr0 % 0x2000
 }
 
 // Ruled out: the bit beside it; the bit turned round.
 pub fn ilt(sccr1: u16) -> bool
     ensures { λ r. ⌜ r ≡ ILT sccr1 ⌝ }
 {
-    sccr1 / 4096 % 2 == 1
+    sccr1 / 0x1000 % 2 == 1
 }
 
 // Ruled out: the bit beside it; the bit turned round.
 pub fn pt(sccr1: u16) -> bool
     ensures { λ r. ⌜ r ≡ PT sccr1 ⌝ }
 {
-    sccr1 / 2048 % 2 == 1
+    sccr1 / 0x800 % 2 == 1
 }
 
 // Ruled out: the bit beside it; the bit turned round.
 pub fn pe(sccr1: u16) -> bool
     ensures { λ r. ⌜ r ≡ PE sccr1 ⌝ }
 {
-    sccr1 / 1024 % 2 == 1
+    sccr1 / 0x400 % 2 == 1
 }
 
 // Ruled out: the bit beside it; the bit turned round.
 pub fn m(sccr1: u16) -> bool
     ensures { λ r. ⌜ r ≡ M sccr1 ⌝ }
 {
-    sccr1 / 512 % 2 == 1
+    sccr1 / 0x200 % 2 == 1
 }
 
 // Ruled out: the bit beside it; the bit turned round.
 pub fn wake(sccr1: u16) -> bool
     ensures { λ r. ⌜ r ≡ WAKE sccr1 ⌝ }
 {
-    sccr1 / 256 % 2 == 1
+    sccr1 / 0x100 % 2 == 1
 }
 
 // Ruled out: the bit beside it; the bit turned round.
@@ -114,7 +114,7 @@ pub fn frame_samples(m: bool) -> u8
 pub fn sccr0_bits(v: u16) -> u16
     ensures { λ r. ⌜ r ≡ sccr0Bits v ⌝ }
 {
-    v % 8192
+    v % 0x2000
 }
 
 // The bits of SCCR1 that are kept as a word: ILT to RE. (RWU is the receiver's; LOOPS, WOMS and SBK are never set.)
@@ -122,7 +122,7 @@ pub fn sccr0_bits(v: u16) -> u16
 pub fn sccr1_bits(v: u16) -> u16
     ensures { λ r. ⌜ r ≡ sccr1Bits v ⌝ }
 {
-    v % 8192 / 4 * 4
+    v % 0x2000 / 4 * 4
 }
 
 // The guarded fields of SCCR1: ILT, PT, PE, M, WAKE.
@@ -138,5 +138,5 @@ pub fn settings(sccr1: u16) -> u16
 pub fn unmodelled(v: u16, upper: bool, lower: bool) -> bool
     ensures { λ r. ⌜ r ≡ unmodelled v upper lower ⌝ }
 {
-    (upper & ((v / 16384 % 2 == 1) | (v / 8192 % 2 == 1))) | (lower & (v % 2 == 1))
+    (upper & ((v / 0x4000 % 2 == 1) | (v / 0x2000 % 2 == 1))) | (lower & (v % 2 == 1))
 }

@@ -341,7 +341,7 @@ fn more(noise: u8, by: u8) -> u8
 fn busy(starting: bool, rt: u8) -> bool
     ensures { λ r. ⌜ r ≡ busy starting rt ⌝ }
 {
-    let at: u16 = if starting { 33748 } else { 33664 };
+    let at: u16 = if starting { 0x83D4 } else { 0x8380 };
     (at >> (rt % 16)) % 2 == 1
 }
 
@@ -357,7 +357,7 @@ pub fn last_bit(m: bool, w: u16) -> bool
     ensures { λ r. ⌜ r ≡ lastBit (bitsOf m) w ⌝ }
 {
     if m {
-        w / 256 % 2 == 1
+        w / 0x100 % 2 == 1
     } else {
         w / 128 % 2 == 1
     }

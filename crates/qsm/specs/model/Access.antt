@@ -11,11 +11,11 @@ use Rattle.qsm.specs.declared.access.Store.{Store}
 
 -- Offsets have 16 bits. (No access that is in the map goes past the last one.)
 abbrev pub next : ℕ → ℕ
-next at = (at + 2) % 65536
+next at = (at + 2) % 0x10000
 
 -- One word read.
 unfoldable pub fetch : Module → Words → Words
-fetch m w = record { at = next (w .at); words = w .words % 65536 * 65536 + peek m (decode (w .at)) }
+fetch m w = record { at = next (w .at); words = w .words % 0x10000 * 0x10000 + peek m (decode (w .at)) }
 
 unfoldable pub fetched : Module → ℕ → ℕ → ℕ
 fetched m at n = iterate n (fetch m) (record { at = at; words = 0 }) .words
@@ -24,11 +24,11 @@ fetched m at n = iterate n (fetch m) (record { at = at; words = 0 }) .words
 unfoldable pub store : Bool → Bool → Store → Store
 store upper lower s =
     record {
-      state = put (s .state) (decode (s .at)) (s .words / 65536) upper lower;
+      state = put (s .state) (decode (s .at)) (s .words / 0x10000) upper lower;
       at = next (s .at);
-      words = s .words % 65536 * 65536;
-      unmodelled = s .unmodelled || unmodelled (s .state) (decode (s .at)) (s .words / 65536) upper lower;
-      guarded = s .guarded || guarded (s .state) (decode (s .at)) (s .words / 65536) upper lower;
+      words = s .words % 0x10000 * 0x10000;
+      unmodelled = s .unmodelled || unmodelled (s .state) (decode (s .at)) (s .words / 0x10000) upper lower;
+      guarded = s .guarded || guarded (s .state) (decode (s .at)) (s .words / 0x10000) upper lower;
     }
 
 unfoldable pub stored : Module → ℕ → ℕ → ℕ → Bool → Bool → Store

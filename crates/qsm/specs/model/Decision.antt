@@ -25,7 +25,7 @@ shaped width offset = eqb width 1 || ((eqb width 2 || eqb width 4) && eqb (offse
 
 -- The written value is not too big for the width.
 abbrev pub fits : ℕ → ℕ → Bool
-fits width value = cond (eqb width 1) (ltb value 256) (cond (eqb width 2) (ltb value 65536) (ltb value 4294967296))
+fits width value = cond (eqb width 1) (ltb value 256) (cond (eqb width 2) (ltb value 0x10000) (ltb value 0x100000000))
 
 -- User access to QSMCR, QILR, QIVR, or to anything else while SUPV is set.
 abbrev pub barred : Module → Bool → ℕ → ℕ → Bool

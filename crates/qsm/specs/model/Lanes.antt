@@ -32,4 +32,4 @@ lane width upper words = cond (eqb width 1) (cond upper (words / 256 % 256) (wor
 -- A value to write, its first word uppermost: a byte stands in both bytes of its word, and goes to the one that is touched.
 abbrev pub lined : ℕ → ℕ → ℕ
 lined width value =
-    cond (eqb width 1) (value % 256 * 16842752) (cond (eqb width 2) (value % 65536 * 65536) value)
+    cond (eqb width 1) (value % 256 * 0x01010000) (cond (eqb width 2) (value % 0x10000 * 0x10000) value)

@@ -79,7 +79,7 @@ withDirections m w =
       qilr = m .qilr;
       qivr = m .qivr;
       portqs = m .portqs;
-      pqspar = w / 2048 % 16 * 8 + w / 256 % 4;
+      pqspar = w / 0x800 % 16 * 8 + w / 256 % 4;
       ddrqs = w % 256;
       inputs = m .inputs;
       clock = m .clock;
@@ -96,7 +96,7 @@ putOwn m PqsparDdrqs v upper lower = putDirections m v upper lower
 
 -- STOP and FRZ are bits 15:13 of QSMCR.
 unfoldable pub ownUnmodelled : OwnWord → ℕ → Bool → Bool
-ownUnmodelled Qsmcr v upper = upper && not (eqb (v / 8192 % 8) 0)
+ownUnmodelled Qsmcr v upper = upper && not (eqb (v / 0x2000 % 8) 0)
 ownUnmodelled QilrQivr v upper = false
 ownUnmodelled Portqs v upper = false
 ownUnmodelled PqsparDdrqs v upper = false

@@ -21,7 +21,7 @@ mosiAfter cpha n w j mosi = cond (changes cpha j && ltb (j / 2) n) (bitOut w n (
 
 -- A bit read goes in below the bits before it.
 abbrev pub pushed : ℕ → Bool → ℕ
-pushed collected miso = collected % 32768 * 2 + digit miso
+pushed collected miso = collected % 0x8000 * 2 + digit miso
 
 -- The bits read so far after edge j.
 unfoldable pub collectedAfter : Bool → ℕ → Bool → ℕ → ℕ

@@ -9,7 +9,7 @@ abbrev pub mstr : ℕ → Bool
 mstr spcr0 = bit 15 spcr0
 
 abbrev pub bitsField : ℕ → ℕ
-bitsField spcr0 = spcr0 / 1024 % 16
+bitsField spcr0 = spcr0 / 0x400 % 16
 
 abbrev pub cpol : ℕ → Bool
 cpol spcr0 = bit 9 spcr0

@@ -70,7 +70,7 @@ withSpcr3 r w = record { spcr0 = r .spcr0; spcr1 = r .spcr1; spcr2 = r .spcr2; s
 
 -- SPE falls.
 abbrev pub disabled : Registers → Registers
-disabled r = withSpcr1 r (r .spcr1 % 32768)
+disabled r = withSpcr1 r (r .spcr1 % 0x8000)
 
 -- SPE rising: pointer from NEWQP, working copy of SPCR2, MOSI 0 until the first bit.
 abbrev pub risen : Qspi → Qspi
@@ -97,7 +97,7 @@ writeSpcr1 q v upper lower =
 
 -- Bits 12 and 7:4 don't exist.
 abbrev pub spcr2Bits : ℕ → ℕ
-spcr2Bits w = w / 8192 * 8192 + w / 256 % 16 * 256 + w % 16
+spcr2Bits w = w / 0x2000 * 0x2000 + w / 256 % 16 * 256 + w % 16
 
 -- A write touching the lower byte touches NEWQP, also with its own value.
 abbrev pub writeSpcr2 : Qspi → ℕ → Bool → Bool → Qspi
@@ -134,4 +134,4 @@ spcr0Guarded q v upper lower =
 abbrev pub spcr1Guarded : Qspi → ℕ → Bool → Bool → Bool
 spcr1Guarded q v upper lower =
     spe (q .registers .spcr1)
-    && not (eqb (merge (q .registers .spcr1) v upper lower % 32768) (q .registers .spcr1 % 32768))
+    && not (eqb (merge (q .registers .spcr1) v upper lower % 0x8000) (q .registers .spcr1 % 0x8000))

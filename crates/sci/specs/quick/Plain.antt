@@ -15,7 +15,7 @@ use Rattle.sci.specs.declared.transmitter.Transmitter.{Transmitter}
 
 -- After RT rt comes RT8 to RT10 or RT16, the bits 7 to 9 and 15; in a start bit RT3, RT5 or RT7 too, the bits 2, 4 and 6.
 abbrev pub busy : Bool → ℕ → Bool
-busy starting rt = bit (rt % 16) (cond starting 33748 33664)
+busy starting rt = bit (rt % 16) (cond starting 0x83D4 0x8380)
 
 -- No zero after three ones; and in a frame no bit is sampled, voted on or ended.
 unfoldable pub rests : Framer → Bool → Bool → Bool
