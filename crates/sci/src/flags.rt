@@ -10,27 +10,27 @@ pub struct Flags {
 impl Flags {
     pub const NONE: Flags = Flags { bits: 0 };
 
-    pub const PF: Flags = Flags { bits: 1 };
+    pub const PF: Flags = Flags { bits: 0x001 };
 
-    pub const FE: Flags = Flags { bits: 2 };
+    pub const FE: Flags = Flags { bits: 0x002 };
 
-    pub const NF: Flags = Flags { bits: 4 };
+    pub const NF: Flags = Flags { bits: 0x004 };
 
-    pub const OR: Flags = Flags { bits: 8 };
+    pub const OR: Flags = Flags { bits: 0x008 };
 
-    pub const IDLE: Flags = Flags { bits: 16 };
+    pub const IDLE: Flags = Flags { bits: 0x010 };
 
-    pub const RAF: Flags = Flags { bits: 32 };
+    pub const RAF: Flags = Flags { bits: 0x020 };
 
-    pub const RDRF: Flags = Flags { bits: 64 };
+    pub const RDRF: Flags = Flags { bits: 0x040 };
 
-    pub const TC: Flags = Flags { bits: 128 };
+    pub const TC: Flags = Flags { bits: 0x080 };
 
-    pub const TDRE: Flags = Flags { bits: 256 };
+    pub const TDRE: Flags = Flags { bits: 0x100 };
     // The receive flags: RDRF, IDLE, OR, NF, FE, PF.
-    pub const RECEIVE: Flags = Flags { bits: 95 };
+    pub const RECEIVE: Flags = Flags { bits: 0x05F };
     // The transmit flags: TDRE, TC.
-    pub const TRANSMIT: Flags = Flags { bits: 384 };
+    pub const TRANSMIT: Flags = Flags { bits: 0x180 };
 
     // The set with the members of f.
     // Ruled out: f alone; a flag that is toggled.

@@ -9,39 +9,39 @@ abbrev pub flag : ℕ → Flags
 flag b = record { bits = b }
 
 abbrev pub PF : Flags
-PF = flag 1
+PF = flag 0x001
 
 abbrev pub FE : Flags
-FE = flag 2
+FE = flag 0x002
 
 abbrev pub NF : Flags
-NF = flag 4
+NF = flag 0x004
 
 abbrev pub OR : Flags
-OR = flag 8
+OR = flag 0x008
 
 abbrev pub IDLE : Flags
-IDLE = flag 16
+IDLE = flag 0x010
 
 abbrev pub RAF : Flags
-RAF = flag 32
+RAF = flag 0x020
 
 abbrev pub RDRF : Flags
-RDRF = flag 64
+RDRF = flag 0x040
 
 abbrev pub TC : Flags
-TC = flag 128
+TC = flag 0x080
 
 abbrev pub TDRE : Flags
-TDRE = flag 256
+TDRE = flag 0x100
 
 -- RDRF, IDLE, OR, NF, FE, PF: what a data read makes fall.
 abbrev pub receiveFlags : Flags
-receiveFlags = flag 95
+receiveFlags = flag 0x05F
 
 -- TDRE, TC: what a data write makes fall.
 abbrev pub transmitFlags : Flags
-transmitFlags = flag 384
+transmitFlags = flag 0x180
 
 abbrev pub insert : Flags → Flags → Flags
 insert a b = record { bits = bitOr (a .bits) (b .bits) }
