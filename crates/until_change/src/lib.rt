@@ -4,8 +4,10 @@ ghost use mathlib.Core.Bool.{true};
 ghost use Prim.Native.Nat.{_+_, _-_, _≤_, max, min};
 ghost use Rattle.qsm.specs.model.Event.{clockLimit, held, pinsOf};
 ghost use Rattle.until_change.specs.Change.{look, sameLook, number, untilChange};
-ghost use Rattle.until_change.specs.Claims.{Claims};
 ghost use Rattle.until_change.specs.Steady.{serialSteady, serialStill, steady, ahead, Returned};
+
+mod claims;
+
 use qsm::pins::outputs_of;
 use qsm::request::request_of;
 use qsm::state::Module;
@@ -203,11 +205,4 @@ pub fn number(c: Change) -> u64
         Change::After(n) => n,
         Change::Nothing => 0,
     }
-}
-
-// All that is shown of it: nothing to compute, so that no law can be left out unnoticed.
-fn shown() -> bool
-    ensures { λ r. ⌜ (r ≡ true) × Claims ⌝ }
-{
-    true
 }
