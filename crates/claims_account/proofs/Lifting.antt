@@ -1,5 +1,5 @@
 -- L14, lifted from the serial half to the module's events.
-use mathlib.Core.Path.{_≡_, ap, sym, subst, _∙_}
+use mathlib.Core.Path.{_≡_, refl, ap, sym, subst, _∙_}
 use mathlib.Core.Bool.{false}
 use mathlib.Core.List.{List, [], _∷_, _++_}
 use Rattle.sci.specs.model.Serial.{resetSci}
@@ -14,11 +14,13 @@ use Rattle.qsm.specs.model.State.{resetModule}
 use Rattle.qsm.specs.declared.state.Module.{Module}
 use Rattle.qsm.specs.declared.event.Event.{Event}
 use Rattle.qsm.specs.declared.event.Event.the-variants.{Reset}
+use Rattle.qsm.specs.model.Event.{step}
+use Rattle.trace.specs.Records.{events, leaves}
 use Rattle.claims_histories.specs.History.{run, log}
-use Rattle.claims_histories.proofs.Lifted.{all, all-log, from-reset, reset-serial, afresh}
-use Rattle.claims_account.specs.Report.{report}
-use Rattle.claims_account.specs.Claims.{Balanced, SinceReset, sinceLast, WithResets, Claims}
-use Rattle.claims_account.specs.declared.Report.{Report}
+use Rattle.claims_histories.proofs.Lifted.{all, all-log, from-reset, reset-serial, afresh, stepped}
+use Rattle.reception.specs.Report.{report}
+use Rattle.claims_account.specs.Claims.{Balanced, SinceReset, sinceLast, WithResets, AsPlayed, OfRecords, Claims}
+use Rattle.reception.specs.declared.account.Report.{Report}
 use Rattle.claims_account.proofs.Since.{no-reset, from-start}
 
 -- The marks and the serial half of a module since a reset are those of its steps.
@@ -46,10 +48,22 @@ with-resets es =
     subst (λ (k : Module). Balanced (log (sinceLast [] es) resetModule) (report k)) (sym (from-start es))
     (balanced (sinceLast [] es) (no-reset es))
 
+as-played : AsPlayed
+unfolding leaves run
+as-played [] m = refl
+as-played (e ∷ es) m = as-played es (step m e .state) ∙ ap (run es) (sym (stepped m e))
+
+of-records : OfRecords
+of-records rs =
+    subst (λ (k : Module). Balanced (log (sinceLast [] (events rs)) resetModule) (report k)) (sym (as-played (events rs) resetModule))
+    (with-resets (events rs))
+
 pub accounted : Claims
 accounted =
     record {
       sinceReset = since-reset;
       withResets = with-resets;
+      asPlayed = as-played;
+      ofRecords = of-records;
       oneRise = λ es. subst OneRise (sym (log-steps es)) (serial.balance .oneRise (all es resetModule));
     }

@@ -24,10 +24,10 @@ use Rattle.qsm.specs.model.Event as events
 use Rattle.claims_histories.specs.History.{run, log}
 use Rattle.claims_histories.proofs.Room.{since-plain}
 use Rattle.claims_histories.proofs.Lifted.{all}
-use Rattle.claims_account.specs.Report.{report}
+use Rattle.reception.specs.Report.{report}
 use Rattle.claims_account.specs.Claims.{Balanced}
 use Rattle.claims_account.specs.Losing.{unread, asleep, addressed, Losing}
-use Rattle.claims_account.specs.declared.Report.{Report}
+use Rattle.reception.specs.declared.account.Report.{Report}
 use Rattle.claims_account.proofs.Lifting.{log-steps, balanced}
 
 same-unread : all unread resetModule ≡ half.unread

@@ -3,7 +3,7 @@
 use mathlib.Core.Bool.{false}
 use mathlib.Core.List.{List, [], _∷_, _++_}
 use mathlib.Core.Path.{_≡_}
-use Prim.Native.Nat.{_+_, _≤_, min}
+use Prim.Native.Nat.{ℕ, _+_, _≤_, min}
 use Rattle.steps.specs.Bits.{digit}
 use Rattle.sci.specs.model.Account.{most}
 use Rattle.sci.specs.claims.Overrun.{Mark, hasReset}
@@ -13,9 +13,10 @@ use Rattle.qsm.specs.declared.state.Module.{Module}
 use Rattle.qsm.specs.declared.event.Event.{Event}
 use Rattle.qsm.specs.declared.event.Event.the-variants.{Reset, Hold}
 use Rattle.qsm.specs.declared.event.Event.the-variants as event
+use Rattle.trace.specs.Records.{events, leaves}
 use Rattle.claims_histories.specs.History.{run, log}
-use Rattle.claims_account.specs.Report.{report}
-use Rattle.claims_account.specs.declared.Report.{Report}
+use Rattle.reception.specs.Report.{report}
+use Rattle.reception.specs.declared.account.Report.{Report}
 
 -- The marks of a history, and the report at its end.
 pub record Balanced (h : List Mark) (r : Report) : Type 0 where
@@ -43,8 +44,18 @@ sinceLast came (event.Access a ∷ es) = sinceLast (came ++ (event.Access a ∷ 
 abbrev pub WithResets : Type 0
 WithResets = (es : List Event) → Balanced (log (sinceLast [] es) resetModule) (report (run es resetModule))
 
+-- The module that events leave one by one, as a trace plays them, is the one that the histories speak of.
+abbrev pub AsPlayed : Type 0
+AsPlayed = (es : List Event) (m : Module) → leaves es m ≡ run es m
+
+-- And of every list of records, as `replay` plays them: what the module that they leave reports is of the events since the last reset among them.
+abbrev pub OfRecords : Type 0
+OfRecords = (rs : List (List ℕ)) → Balanced (log (sinceLast [] (events rs)) resetModule) (report (leaves (events rs) resetModule))
+
 -- Each run of losses has one rise of OR, with its first frame, resets among the events or not.
 pub record Claims : Type 0 where
   pub sinceReset : SinceReset
   pub withResets : WithResets
+  pub asPlayed : AsPlayed
+  pub ofRecords : OfRecords
   pub oneRise : (es : List Event) → OneRise (log es resetModule)

@@ -9,8 +9,8 @@ use Rattle.qsm.specs.declared.event.Event.{Event}
 use Rattle.qsm.specs.declared.event.Event.the-variants as event
 use Rattle.claims_histories.specs.History.{run, log}
 use Rattle.claims_histories.specs.Witness.{rate, enable, samples, letter}
-use Rattle.claims_account.specs.Report.{report}
-use Rattle.claims_account.specs.declared.Report.{Report}
+use Rattle.reception.specs.Report.{report}
+use Rattle.reception.specs.declared.account.Report.{Report}
 
 -- The letter A three times, and nothing is read.
 abbrev pub unread : List Event

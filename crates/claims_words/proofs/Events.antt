@@ -21,11 +21,12 @@ use Rattle.qsm.specs.declared.state.Module.{Module}
 use Rattle.qsm.specs.declared.event.Access.the-variants.{Read, Write}
 use Rattle.qsm.specs.declared.event.Event.the-variants.{Reset, Hold}
 use Rattle.qsm.specs.declared.event.Event.the-variants as event
+use Rattle.reception.specs.Arrival.{fills, figureOf}
+use Rattle.reception.specs.declared.arrival.Arrival.the-variants.{Came, Nothing}
 use Rattle.claims_histories.specs.History.{after, receiverRead, playedClocks, freshWord, clockMarks}
 use Rattle.claims_histories.proofs.Follows.{follows}
 use Rattle.claims_words.specs.Words.{Word, brought, clockWords, bitsOf, figuresOf, came}
-use Rattle.claims_words.specs.Arrival.{fills, inScdr, told, figureOf}
-use Rattle.claims_words.specs.declared.Arrival.the-variants.{Came, Nothing}
+use Rattle.claims_words.specs.Told.{inScdr, told}
 use Rattle.claims_words.specs.Claims.{AsMarked, Told, FigureTold, NoisyWord}
 use Rattle.claims_words.proofs.Clocks.{full, kept, clock-words, serial-words}
 use Rattle.claims_words.proofs.Accesses.{access-clear}

@@ -2,4 +2,3 @@ pub mod Clocks
 pub mod Accesses
 pub mod Events
 pub mod Records
-pub mod Tallies

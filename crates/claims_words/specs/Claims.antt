@@ -1,21 +1,20 @@
 -- What is shown of the words that enter SCDR, in every state of the module.
-use mathlib.Core.Bool.{true, false}
+use mathlib.Core.Bool.{true}
 use mathlib.Core.List.{List, [], _∷_, _++_}
 use mathlib.Core.Path.{_≡_}
 use Prim.Native.Nat.{ℕ, _*_, _<_}
-use Rattle.sci.specs.model.Serial.{resetSci}
-use Rattle.qsm.specs.model.State.{resetModule, withSci}
 use Rattle.qsm.specs.declared.state.Module.{Module}
 use Rattle.qsm.specs.declared.event.Event.{Event}
 use Rattle.qsm.specs.declared.event.Event.the-variants.{Hold}
 use Rattle.trace.specs.Trace.{answerLength}
 use Rattle.trace.specs.Play.{Outcome, play}
 use Rattle.trace.specs.Laws.{unread, Buffer, streamed}
+use Rattle.trace.specs.Records.{events}
+use Rattle.reception.specs.Arrival.{arrival, figureOf, figures}
+use Rattle.reception.specs.Examples.{free}
 use Rattle.claims_histories.specs.History.{after, eventMarks}
-use Rattle.claims_words.specs.Words.{Word, eventWords, words, leaves, bitsOf, figuresOf, came}
-use Rattle.claims_words.specs.Arrival.{arrival, told, figureOf}
-use Rattle.claims_words.specs.Tally.{tallyOf, withArrival}
-use Rattle.claims_words.specs.declared.Arrival.{Arrival}
+use Rattle.claims_words.specs.Words.{Word, eventWords, words, bitsOf, figuresOf, came}
+use Rattle.claims_words.specs.Told.{told}
 
 -- The words within an event are those of demand 3's marks.
 abbrev pub AsMarked : Type 0
@@ -28,14 +27,15 @@ Told = (e : Event) (m : Module) → eventWords e m ≡ told m (after e m)
 abbrev pub FigureTold : Type 0
 FigureTold = (m left : Module) → figuresOf (told m left) ≡ figureOf (arrival m left)
 
+-- So the figures that `replay` counts, told by the modules before and after each event, are those of the words that enter SCDR clock by clock.
+abbrev pub FiguresTold : Type 0
+FiguresTold = (es : List Event) (m : Module) → figures es m ≡ figuresOf (words es m)
+
 -- Into less room than two answers take, a trace is played by one record at most: the modules before and after it tell the word.
 abbrev pub RecordTold : Type 0
 RecordTold =
     (m : Module) (t : List ℕ) (room : ℕ) → room < 2 * answerLength →
-    words (play m t room .records) m ≡ told m (play m t room .state)
-
-abbrev pub StateLeft : Type 0
-StateLeft = (m : Module) (t : List ℕ) (room : ℕ) → play m t room .state ≡ leaves (play m t room .records) m
+    words (events (play m t room .records)) m ≡ told m (play m t room .state)
 
 -- The words told buffer by buffer.
 unfoldable pub toldBy : Module → List ℕ → List Buffer → List Word
@@ -52,48 +52,17 @@ Small (b ∷ bs) = (b .room < 2 * answerLength) × Small bs
 abbrev pub AllTold : Type 0
 AllTold =
     (m : Module) (left : List ℕ) (bs : List Buffer) → Small bs →
-    toldBy m left bs ≡ words (streamed m left bs .played .records) m
+    toldBy m left bs ≡ words (events (streamed m left bs .played .records)) m
 
--- A tally with what came is that of all the figures.
-abbrev pub TallyGoesOn : Type 0
-TallyGoesOn = (fs : List ℕ) (a : Arrival) → withArrival (tallyOf fs) a ≡ tallyOf (fs ++ figureOf a)
-
--- Words that are noisy do come: the receiver on, with two clocks to a sample, before RT10 of a stop bit, with the bits of the letter A and a sum of
--- 2 so far; of RT8 and RT9 one disagrees.
-abbrev pub atStop : Module
-atStop =
-    withSci resetModule
-    (record {
-      sccr0 = 1;
-      sccr1 = 4;
-      status = resetSci .status;
-      prescaler = 1;
-      receiver =
-          record {
-            framer =
-                record { framing = true; starting = false; left = 0; rt = 9; first = true; second = false; noise = 2; moved = false; shift = 65 };
-            last1 = false;
-            last2 = true;
-            last3 = true;
-            idle = 0;
-            since = false;
-            asleep = false;
-            scdr = 0;
-            noise = 0;
-          };
-      transmitter = resetSci .transmitter;
-      account = resetSci .account;
-    })
-
+-- Words that are noisy do come.
 abbrev pub NoisyWord : Type 0
-NoisyWord = eventWords (Hold 0 true 1) atStop ≡ record { bits = 65; figure = 3 } ∷ []
+NoisyWord = eventWords (Hold 0 true 1) free ≡ record { bits = 65; figure = 3 } ∷ []
 
 pub record Claims : Type 0 where
   pub as-marked : AsMarked
   pub told : Told
   pub figure-told : FigureTold
+  pub figures-told : FiguresTold
   pub record-told : RecordTold
-  pub state-left : StateLeft
   pub all-told : AllTold
-  pub tally-goes-on : TallyGoesOn
   pub noisy-word : NoisyWord

@@ -1,4 +1,3 @@
 pub mod Words
-pub mod Arrival
-pub mod Tally
+pub mod Told
 pub mod Claims

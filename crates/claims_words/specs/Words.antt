@@ -14,9 +14,6 @@ use Rattle.qsm.specs.declared.state.Module.{Module}
 use Rattle.qsm.specs.declared.event.Event.{Event}
 use Rattle.qsm.specs.declared.event.Event.the-variants.{Reset, Hold}
 use Rattle.qsm.specs.declared.event.Event.the-variants as event
-use Rattle.trace.specs.Trace.{parsed}
-use Rattle.trace.specs.declared.Parsed.{Parsed}
-use Rattle.trace.specs.declared.Parsed.the-variants.{Record, Unknown, Cut}
 use Rattle.claims_histories.specs.History.{playedClocks}
 
 -- Nine bits, and the noise figure.
@@ -42,24 +39,10 @@ eventWords Reset m = []
 eventWords (Hold pins rxd n) m = clockWords (playedClocks m n) rxd (held m pins)
 eventWords (event.Access a) m = []
 
--- The words of the records that a trace's play answered, and the module that they leave.
-abbrev pub recordWords : Parsed → Module → List Word
-recordWords (Record e n) m = eventWords e m
-recordWords Unknown m = []
-recordWords Cut m = []
-
-abbrev pub recordLeaves : Parsed → Module → Module
-recordLeaves (Record e n) m = step m e .state
-recordLeaves Unknown m = m
-recordLeaves Cut m = m
-
-unfoldable pub words : List (List ℕ) → Module → List Word
+-- The words of events, one after the other.
+unfoldable pub words : List Event → Module → List Word
 words [] m = []
-words (r ∷ rs) m = recordWords (parsed r) m ++ words rs (recordLeaves (parsed r) m)
-
-unfoldable pub leaves : List (List ℕ) → Module → Module
-leaves [] m = m
-leaves (r ∷ rs) m = leaves rs (recordLeaves (parsed r) m)
+words (e ∷ es) m = eventWords e m ++ words es (step m e .state)
 
 -- The bits and the figures of words, and the words of demand 3's marks.
 abbrev pub bitsOf : List Word → List ℕ

@@ -1,3 +1,3 @@
 pub mod Advancing
-pub mod Noting
 pub mod Reaching
+pub mod Noting

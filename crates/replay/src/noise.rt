@@ -2,8 +2,8 @@
 ghost use mathlib.Core.Path.{_≡_};
 ghost use lib.ListN.{length};
 ghost use Rattle.trace.specs.Trace.{answerLength};
-ghost use Rattle.claims_words.specs.Arrival.{arrival};
-ghost use Rattle.claims_words.specs.Tally.{withArrival};
+ghost use Rattle.reception.specs.Arrival.{arrival};
+ghost use Rattle.reception.specs.Tally.{withArrival};
 ghost use Rattle.text.specs.Line.{Shows};
 ghost use Rattle.text.specs.Noise.{noiseLine};
 ghost use Rattle.replay.specs.Noted.{Notes};
@@ -12,11 +12,12 @@ use crate::run::Next;
 use crate::run::Run;
 use crate::run::Turned;
 use crate::run::turn;
-use claims_words::Arrival;
-use claims_words::Tally;
 use files::output::write_first;
 use libc::STDERR_FILENO;
 use qsm::state::Module;
+use reception::arrival::Arrival;
+use reception::arrival::arrived;
+use reception::tally::Tally;
 use text::line::Line;
 
 // A run that has ended, and the tally of its words.
@@ -54,7 +55,7 @@ fn say_arrival(tally: Tally, a: Arrival) {
 fn note(before: Module, after: Module, tally: Tally) -> Tally
     ensures { λ r. ⌜ r ≡ withArrival tally (arrival before after) ⌝ }
 {
-    let a = claims_words::arrived(before, after);
+    let a = arrived(before, after);
     say_arrival(tally, a);
     tally.with_arrival(a)
 }

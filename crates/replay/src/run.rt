@@ -153,7 +153,7 @@ fn answers() -> [u8; 589824]
     [0u8; 589824]
 }
 
-// Ruled out: a module that the records answered don't lead to; an account that is not of the events since the last reset.
+// Ruled out: a module that the records answered don't lead to; so, by the law `OfRecords`, an account that is not of the events since the last reset.
 pub fn replay(fd: i32) -> Turned
     ensures { λ r. ⌜ Reached (r .run) ⌝ }
 {

@@ -1,5 +1,6 @@
 -- All that is shown of playing a trace.
 use Rattle.trace.specs.Laws.{KnownAndWhole, BytesEach, AnswersFit, RecordsRead, ReadToTheEnd, EarlierStand, Resumes, InParts, Streams}
+use Rattle.trace.specs.Records.{StateLeft}
 
 pub record Claims : Type 0 where
   pub known-and-whole : KnownAndWhole
@@ -11,3 +12,4 @@ pub record Claims : Type 0 where
   pub resumes : Resumes
   pub in-parts : InParts
   pub streams : Streams
+  pub state-left : StateLeft

@@ -1,7 +1,6 @@
 use mathlib.Core.Path.{refl}
 use Rattle.claims_words.proofs.Events.{as-marked, event-told, figure-told, noisy-word}
-use Rattle.claims_words.proofs.Records.{by-record, state-left, all-told}
-use Rattle.claims_words.proofs.Tallies.{tally-goes-on}
+use Rattle.claims_words.proofs.Records.{figures-told, by-record, all-told}
 use Rattle.claims_words.proofs.shown.Statement.{statement}
 use Rattle.claims_words.proofs.shown.Tie as tie
 
@@ -12,10 +11,9 @@ returns c = (
     as-marked = as-marked;
     told = event-told;
     figure-told = figure-told;
+    figures-told = figures-told;
     record-told = by-record;
-    state-left = state-left;
     all-told = all-told;
-    tally-goes-on = tally-goes-on;
     noisy-word = noisy-word;
   },
 )

@@ -2,7 +2,7 @@ use mathlib.Core.Path.{subst}
 use borrow.Author.Needs.{needs}
 use Rattle.text.specs.Line.{Shows}
 use Rattle.text.specs.Account.{accountLine}
-use Rattle.claims_account.specs.declared.Report.{Report}
+use Rattle.reception.specs.declared.account.Report.{Report}
 use Rattle.replay.proofs.frames.module_line.Statement.{statement}
 use Rattle.replay.proofs.frames.module_line.Tie as tie
 

@@ -2,6 +2,7 @@ use mathlib.Core.Path.{refl}
 use Rattle.trace.proofs.claims.shown.Statement.{statement}
 use Rattle.trace.proofs.claims.shown.Tie as tie
 use Rattle.trace.proofs.Laws.{known-and-whole, bytes-each, answers-fit, records-read, read-to-the-end, earlier-stand, resumes, in-parts, streams}
+use Rattle.trace.proofs.Records.{state-left}
 
 returns : tie.Need-returns
 returns c = (
@@ -16,6 +17,7 @@ returns c = (
     resumes = resumes;
     in-parts = in-parts;
     streams = streams;
+    state-left = state-left;
   },
 )
 

@@ -1,7 +1,7 @@
 use native.Mathlib.Omega.{arith}
 use borrow.Author.Needs.{needs}
-use Rattle.claims_words.proofs.one_more_if.Statement.{statement}
-use Rattle.claims_words.proofs.one_more_if.Tie as tie
+use Rattle.reception.proofs.tally.one_more_if.Statement.{statement}
+use Rattle.reception.proofs.tally.one_more_if.Tie as tie
 
 returns : tie.Need-returns
 returns c = rw (c .one-more .ensures, c .before .if1 .taken)

@@ -1,6 +1,6 @@
 use borrow.Author.Needs.{needs}
-use Rattle.claims_account.proofs.reported.Statement.{statement}
-use Rattle.claims_account.proofs.reported.Tie as tie
+use Rattle.reception.proofs.account.reported.Statement.{statement}
+use Rattle.reception.proofs.account.reported.Tie as tie
 
 returns : tie.Need-returns
 returns c = rw (c .waits .ensures, c .before .lost .ensures, c .before .before .taken .ensures)

@@ -1,6 +1,6 @@
 use borrow.Author.Needs.{needs}
-use Rattle.claims_words.proofs.Tally.with_figure.Statement.{statement}
-use Rattle.claims_words.proofs.Tally.with_figure.Tie as tie
+use Rattle.reception.proofs.tally.Tally.with_figure.Statement.{statement}
+use Rattle.reception.proofs.tally.Tally.with_figure.Tie as tie
 
 returns : tie.Need-returns
 returns c = rw (c .larger .ensures, c .before .one-more-if .ensures, c .before .before .one-more .ensures)

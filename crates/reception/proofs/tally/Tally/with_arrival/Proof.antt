@@ -1,6 +1,6 @@
 use borrow.Author.Needs.{needs}
-use Rattle.claims_words.proofs.Tally.with_arrival.Statement.{statement}
-use Rattle.claims_words.proofs.Tally.with_arrival.Tie as tie
+use Rattle.reception.proofs.tally.Tally.with_arrival.Statement.{statement}
+use Rattle.reception.proofs.tally.Tally.with_arrival.Tie as tie
 
 returns : tie.Need-returns
 returns c = rw (c .with-figure .ensures, c .before .before .a .given .1)

@@ -2,7 +2,7 @@
 use Rattle.sci.specs.model.Flags.{RDRF}
 use Rattle.sci.specs.model.Status.{has}
 use Rattle.qsm.specs.declared.state.Module.{Module}
-use Rattle.claims_account.specs.declared.Report.{Report}
+use Rattle.reception.specs.declared.account.Report.{Report}
 
 -- Its two counts, and whether a word waits: RDRF is set.
 abbrev pub report : Module → Report

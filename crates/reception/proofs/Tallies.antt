@@ -6,9 +6,9 @@ use native.Mathlib.Omega.{arith}
 use lib.Dec.{ltb}
 use lib.ListN.{length, length-append}
 use Rattle.steps.specs.Bits.{digit}
-use Rattle.claims_words.specs.Tally.{upTo, noisy, worst, tallyOf, withFigure}
-use Rattle.claims_words.specs.declared.Arrival.the-variants.{Came, Nothing}
-use Rattle.claims_words.specs.Claims.{TallyGoesOn}
+use Rattle.reception.specs.Tally.{upTo, noisy, worst, tallyOf, withFigure}
+use Rattle.reception.specs.declared.arrival.Arrival.the-variants.{Came, Nothing}
+use Rattle.reception.specs.Claims.{TallyGoesOn}
 
 noisy-more : (fs : List ℕ) (f : ℕ) → noisy (fs ++ (f ∷ [])) ≡ noisy fs + digit (ltb 0 f)
 noisy-more [] f = omega arith

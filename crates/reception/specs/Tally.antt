@@ -4,9 +4,9 @@ use Prim.Native.Nat.{ℕ, _+_, _-_, _^_, min, max}
 use lib.Dec.{ltb}
 use lib.ListN.{length}
 use Rattle.steps.specs.Bits.{digit}
-use Rattle.claims_words.specs.declared.Arrival.{Arrival}
-use Rattle.claims_words.specs.declared.Arrival.the-variants.{Came, Nothing}
-use Rattle.claims_words.specs.declared.Tally.{Tally}
+use Rattle.reception.specs.declared.arrival.Arrival.{Arrival}
+use Rattle.reception.specs.declared.arrival.Arrival.the-variants.{Came, Nothing}
+use Rattle.reception.specs.declared.tally.Tally.{Tally}
 
 -- A count stays at the largest number.
 abbrev pub upTo : ℕ → ℕ

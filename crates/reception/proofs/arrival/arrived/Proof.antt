@@ -1,7 +1,7 @@
 use mathlib.Core.Path.{sym, _∙_}
 use borrow.Author.Needs.{needs}
-use Rattle.claims_words.proofs.arrived.Statement.{statement}
-use Rattle.claims_words.proofs.arrived.Tie as tie
+use Rattle.reception.proofs.arrival.arrived.Statement.{statement}
+use Rattle.reception.proofs.arrival.arrived.Tie as tie
 
 returns : tie.Need-returns
 returns c = rw (c .noise .ensures, sym (c .before .before .fills .ensures) ∙ c .before .if1 .taken)

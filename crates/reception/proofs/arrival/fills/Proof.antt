@@ -1,6 +1,6 @@
 use borrow.Author.Needs.{needs}
-use Rattle.claims_words.proofs.fills.Statement.{statement}
-use Rattle.claims_words.proofs.fills.Tie as tie
+use Rattle.reception.proofs.arrival.fills.Statement.{statement}
+use Rattle.reception.proofs.arrival.fills.Tie as tie
 
 returns : tie.Need-returns
 returns c = rw (c .has2 .ensures, c .before .has .ensures)
