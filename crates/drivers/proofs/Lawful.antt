@@ -68,7 +68,7 @@ of-driver : (d : Shared) (who : Driver) (a : access.Access) → nine d (Drive wh
 unfolding does
 of-driver d who a h = plays d (Drive who a) (event.Access a) (done d (Drive who a) h)
 
--- Claiming and releases change the holder alone.
+-- Claims and releases change the holder alone.
 claimed : (d : Shared) (who : Driver) → nine d (Claim who) ≡ false → step d (Claim who) .state ≡ withHolder d (numberOf who)
 unfolding does told
 claimed d who h = ap stateOf (done d (Claim who) h)

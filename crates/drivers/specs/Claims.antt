@@ -123,7 +123,7 @@ pub record Demand2 : Type 0 where
   pub driver :
       (d : Shared) (who : Driver) (a : access.Access) → nine d (Drive who a) ≡ false →
       OwnStep d (Drive who a) (event.Access a) × Kept d (Drive who a)
-  -- Claiming and releases leave the module.
+  -- Claims and releases leave the module.
   pub claim : (d : Shared) (who : Driver) → nine d (Claim who) ≡ false → step d (Claim who) .state .qsm ≡ d .qsm
   pub release : (d : Shared) (who : Driver) → nine d (Release who) ≡ false → step d (Release who) .state .qsm ≡ d .qsm
 
