@@ -1,7 +1,7 @@
 //! `index MARKS` and `find TRACE NUMBER`: the marks of a trace, and a record looked up by them.
 
 use crate::Printed;
-use host::qsm::{self, Indexed};
+use qsm::Indexed;
 
 /// What stands in the list before: no place and no number of resets.
 const BEFORE: u64 = 0xEEEE_EEEE_EEEE_EEEE;
