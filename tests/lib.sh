@@ -32,6 +32,16 @@ same() { # WHAT GOT EXPECTED
     if [ "$2" = "$3" ]; then pass; else fail "$1: got '$2', expected '$3'"; fi
 }
 
+# The programs that people use: all but those of cases.
+programs() { # TREE
+    local main name
+    for main in "$1"/crates/*/src/main.rt; do
+        name=${main#"$1/crates/"}
+        name=${name%%/*}
+        [[ $name == cases_* ]] || echo "$name"
+    done
+}
+
 # The last line of a script, and its status: something was tried and nothing failed.
 finish() { # [MORE]
     echo "$passed passed, $failed failed${1:-}"
