@@ -64,7 +64,7 @@ fn recorded_logs() {
     give_back(false);
 }
 
-/// Half a minute, optimised: `cargo test --release -p reference -- --ignored`.
+/// A minute or more, optimised: `cargo test --release -p reference -- --ignored`.
 #[test]
 #[ignore]
 fn recorded_logs_of_long_holds() {
