@@ -1,7 +1,9 @@
 /*
- * Motorola's queued serial module (QSM), as a struct that a host keeps and changes by six functions; a tool for its logs, qsm_compare; register settings
- * by edition, qsm_editions_add and three more; plans of its queue, qsm_plan; a judge of other logs, qsm_judge; and a module that
- * two drivers share, qsm_drivers_new and eight more.
+ * Motorola's queued serial module (QSM), as a struct that a host keeps and changes: qsm_new, qsm_reset, qsm_hold, qsm_read and qsm_write. qsm_noise,
+ * qsm_taken, qsm_lost and qsm_until_change look at it.
+ *   - Traces and logs: qsm_play, qsm_compare, qsm_judge; an index of a trace, qsm_index_build and two more; the lines that came, qsm_lines_next.
+ *   - Register settings by edition, qsm_editions_add and three more; plans of the queue, qsm_plan and three more.
+ *   - A module that two drivers share, qsm_drivers_new and eight more.
  *
  * For C11 and C++11 on x86-64. The archive is made by `rt staticlib qsm_c`; link target/staticlib/libqsm_c.a.
  *
@@ -17,6 +19,7 @@
  *   - A `struct qsm_drivers *` likewise, from qsm_drivers_new.
  *   - `trace` points to `length` bytes, `log` to `room` bytes, and the two do not overlap. Never null, also where there are 0 bytes.
  *   - `first` and `second` point to so many bytes and may overlap, `list` to `room` numbers that overlap neither. Never null either.
+ *   - `marks` points to `room` numbers and `line` to `room` bytes, which don't overlap the trace. Never null either.
  *   - `buffer` points to `length` bytes, whatever they are; `used` may be any number. Never null either.
  *   - Every bool, in the calls and in the struct, is 0 or 1.
  * There are no hidden variables: different modules may be used by different threads at once.
@@ -36,16 +39,18 @@ extern "C" {
 enum qsm_refusal {
     QSM_ANSWERED = 0,     /* not refused, or the trace's end */
     QSM_MISSHAPEN = 1,    /* width not 1, 2 or 4; odd offset with 2 or 4; written value too big for the width */
-    QSM_UNMAPPED = 2,     /* a byte touched is not in the map */
+    QSM_UNMAPPED = 2,     /* a byte touched is not in the map; index: there is no such record */
     QSM_UNMODELLED = 3,   /* a write would set an unmodelled bit, BITS 1 to 7, or SPE with MSTR clear */
     QSM_GUARDED = 4,      /* a write would change a guarded field while its half is on */
     QSM_UNKNOWN_KIND = 5, /* trace: a record of unknown kind; compare: not every answer begins with the same one of 10 and 11 (hex);
                              editions: the buffer has one, or one that would have been refused */
     QSM_CUT_RECORD = 6,   /* trace: a record cut by the end; compare: a length that is no multiple of an answer's, 10 or 18 bytes;
                              editions: the used length cuts a record or passes the buffer's end */
-    QSM_NO_ROOM = 7,      /* trace: fewer than 18 bytes left of the log; compare: the list is too short; editions: 64 records, or no room */
+    QSM_NO_ROOM = 7,      /* trace: fewer than 18 bytes left of the log; compare: the list is too short; editions: 64 records, or no room;
+                             index: the list is too short, or the trace has more than 4,096 marks; lines: a buffer of fewer than 128 bytes */
     QSM_NO_EDITION = 8,   /* editions: one to add that is not above the last, one to withdraw or to get that is not there */
-    QSM_NOT_YOURS = 9,    /* two drivers: bytes, a claim or a write that the driver hasn't; a first reset with no split from 1 to 15 */
+    QSM_NOT_YOURS = 9,    /* two drivers: bytes that are not the driver's, a claim or a release that it can't have, a write that it may not
+                             make; a first reset with no split from 1 to 15 */
     QSM_CLOCK_LIMIT = 10, /* a hold, also in a trace: the clocks since reset would pass 2^64 - 1 */
     QSM_NO_PLAN = 11      /* plan: there is none for these set-points in this window */
 };
@@ -453,6 +458,7 @@ struct qsm_answer qsm_drivers_read(struct qsm_drivers *d, bool spindle, bool sup
 struct qsm_answer qsm_drivers_write(struct qsm_drivers *d, bool spindle, bool supervisor, uint8_t width, uint16_t offset, uint32_t value);
 struct qsm_answer qsm_drivers_claim(struct qsm_drivers *d, bool spindle);
 struct qsm_answer qsm_drivers_release(struct qsm_drivers *d, bool spindle);
+
 /* Marks of a trace: one for every so many records, at most so many of them, so many numbers each. */
 enum qsm_index { QSM_INDEX_SPACING = 256, QSM_INDEX_MARKS = 4096, QSM_INDEX_NUMBERS = 2 };
 

@@ -1,7 +1,7 @@
 //! The struct's fields against what reads give: the declared layout is the library's.
 
 use crate::pair::{same, Difference};
-use host::qsm::Module;
+use qsm::Module;
 
 fn read(module: &Module, width: u8, offset: u16) -> u32 {
     let mut copy = *module;

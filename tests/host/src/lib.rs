@@ -1,6 +1,3 @@
-//! The module of `include/qsm.h` for a host in Rust, and numbers for tests of it.
+//! Numbers for tests.
 
-pub mod drivers;
-mod layout;
-pub mod qsm;
 pub mod random;

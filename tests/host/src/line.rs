@@ -35,7 +35,7 @@ impl Line {
             0 | 1 => (!0, random.between(1, 6)),
             2 => (!0, random.between(10, 32)),
             3 => (0, random.between(1, 14)),
-            4 => (random.next() as u32, random.between(1, 32)),
+            4 => (random.bits() as u32, random.between(1, 32)),
             kind => {
                 let data = random.below(1 << data_bits);
                 let stop = u32::from(kind != 5);

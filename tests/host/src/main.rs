@@ -16,7 +16,6 @@ mod until;
 mod wild;
 
 use event::Event;
-use host::qsm;
 use pair::{Difference, Pair};
 use script::Script;
 use shown::Shown;

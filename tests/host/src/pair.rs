@@ -1,7 +1,6 @@
 //! The library's module and the reference's, side by side.
 
 use crate::event::Event;
-use host::qsm;
 use reference::Answer;
 
 /// What the two gave, where it differs.
@@ -25,6 +24,12 @@ pub fn same<T: PartialEq + std::fmt::Debug>(
         library: format!("{library:X?}"),
         reference: format!("{reference:X?}"),
     })
+}
+
+/// The library's answer in the reference's type.
+pub fn plain(answer: qsm::Answer) -> Answer {
+    let qsm::Answer { refusal, value, levels, mask, level, vector, clock } = answer;
+    Answer { refusal, value, levels, mask, level, vector, clock }
 }
 
 #[derive(Clone)]
@@ -77,7 +82,7 @@ impl Pair {
                 self.reference.write(supervisor, width, offset, value),
             ),
         };
-        same(|| format!("{event:X?}"), library.into(), reference)?;
+        same(|| format!("{event:X?}"), plain(library), reference)?;
         same(
             || format!("the noise figure after {event:X?}"),
             self.library.noise(),

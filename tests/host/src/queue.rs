@@ -82,7 +82,7 @@ pub fn next(random: &mut Random, pins: &mut u8) -> Event {
         32 => write(2, SPCR0, spcr0(random)),
         33 | 34 => write(2, SPCR1, spcr1(random)),
         35 if random.percent(50) => write(2, SPCR1, random.below(0x8000)),
-        36 if random.percent(20) => write(4, SPCR0, random.next() as u32),
+        36 if random.percent(20) => write(4, SPCR0, random.bits() as u32),
         37 if random.percent(20) => write(4, SPCR1, spcr1(random) << 16 | spcr2(random)),
         _ => hold(random, pins),
     }

@@ -8,7 +8,7 @@ impl Random {
     }
 
     /// The next 64 bits (splitmix64).
-    pub fn next(&mut self) -> u64 {
+    pub fn bits(&mut self) -> u64 {
         self.0 = self.0.wrapping_add(0x9E37_79B9_7F4A_7C15);
         let mut z = self.0;
         z = (z ^ (z >> 30)).wrapping_mul(0xBF58_476D_1CE4_E5B9);
@@ -18,7 +18,7 @@ impl Random {
 
     /// A number below `n`.
     pub fn below(&mut self, n: u32) -> u32 {
-        (self.next() >> 32) as u32 % n
+        (self.bits() >> 32) as u32 % n
     }
 
     /// A number from `low` to `high`.
@@ -37,6 +37,6 @@ impl Random {
 
     /// Some of the bits of `mask`.
     pub fn some(&mut self, mask: u32) -> u32 {
-        self.next() as u32 & mask
+        self.bits() as u32 & mask
     }
 }

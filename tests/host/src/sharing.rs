@@ -1,10 +1,10 @@
 //! Two drivers and their host at the module that they share: random events on the library and on the reference, every answer compared.
 
 use crate::event::{write, Event};
-use crate::pair::{same, Difference};
+use crate::pair::{plain, same, Difference};
 use crate::{queue, wild};
-use host::drivers::Drivers;
 use host::random::Random;
+use qsm::Drivers;
 use reference::{Answer, Driver};
 
 const ROUNDS: u32 = 300;
@@ -34,11 +34,11 @@ impl Sharing {
     fn tell(
         &mut self,
         what: impl FnOnce() -> String,
-        library: host::qsm::Answer,
+        library: qsm::Answer,
         reference: Answer,
     ) -> Result<(), Difference> {
         self.refusals[usize::from(reference.refusal)] += 1;
-        same(what, library.into(), reference)
+        same(what, plain(library), reference)
     }
 
     fn reset(&mut self, split: u8) -> Result<(), Difference> {

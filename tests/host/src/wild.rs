@@ -45,9 +45,9 @@ fn access(random: &mut Random) -> Event {
         2 => 0xFFFF,
         _ => 0xFFFF_FFFF,
     };
-    let mut value = random.next() as u32;
+    let mut value = random.bits() as u32;
     for _ in 0..random.below(3) {
-        value &= random.next() as u32;
+        value &= random.bits() as u32;
     }
     if !random.percent(5) {
         value &= small;

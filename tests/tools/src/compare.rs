@@ -1,7 +1,6 @@
 //! `compare FILE_A FILE_B ROOM`: two logs, compared into a list of so many numbers.
 
 use crate::Printed;
-use host::qsm;
 
 /// What stands in the list before a comparison: no number of an answer or sum of fields.
 const BEFORE: u64 = 0xEEEE_EEEE_EEEE_EEEE;

@@ -1,8 +1,7 @@
 //! `drivers`: events of the host and of two drivers on standard input, the answer's bytes in hexadecimal for each.
 
 use crate::Printed;
-use host::drivers::{bytes, Drivers};
-use host::qsm::Answer;
+use qsm::{Answer, Drivers};
 
 fn hex<T: TryFrom<u32>>(word: &str) -> Result<T, String> {
     let n = u32::from_str_radix(word, 16).map_err(|_| format!("no hexadecimal number: {word}"))?;
@@ -64,7 +63,7 @@ pub fn drivers(text: &str) -> Printed {
     let mut d = Drivers::new();
     let mut printed = String::new();
     for line in text.lines() {
-        for byte in bytes(answer(&mut d, line)?) {
+        for byte in answer(&mut d, line)?.bytes() {
             printed += &format!("{byte:02x}");
         }
         printed.push('\n');

@@ -1,7 +1,7 @@
 //! `editions`: a script on standard input, of calls on a buffer of editions and its used length.
 
 use crate::{number, Printed};
-use host::qsm::{self, Changed, Edition, Given};
+use qsm::{Changed, Edition, Given};
 
 fn bytes(hex: &str) -> Result<Vec<u8>, String> {
     let digits = if hex == "-" { "" } else { hex };

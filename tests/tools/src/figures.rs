@@ -1,7 +1,7 @@
 //! `figures`: a trace from standard input, played record by record; after each answer, what the module counts.
 
 use crate::Printed;
-use host::qsm::{Module, ANSWER};
+use qsm::{Module, ANSWER};
 
 /// A line for each record answered: the noise figure of the word in SCDR, then frames taken and frames lost since the last reset.
 pub fn figures() -> Printed {

@@ -1,7 +1,7 @@
 //! `index MARKS` and `find TRACE NUMBER`: the marks of a trace, and a record looked up by them.
 
 use crate::Printed;
-use host::qsm::{self, Indexed};
+use qsm::Indexed;
 
 /// What stands in the list before: no place and no number of resets.
 const BEFORE: u64 = 0xEEEE_EEEE_EEEE_EEEE;
@@ -48,11 +48,13 @@ pub fn index(trace: &[u8], room: usize) -> Printed {
     Ok(lines.into_bytes())
 }
 
-/// With the marks of the whole trace, of beginnings of it, and with none: all must agree.
+/// With the marks of the whole trace, where it has no more than an index may, of beginnings of it, and with none: all must agree.
 pub fn find(trace: &[u8], number: u64) -> Printed {
     let (r, marks) = built(trace, 4096)?;
-    let f = qsm::index_find(trace, &marks, r.marks, number);
-    if f.refusal == 0 && f.walked > 255 {
+    // A list that was refused has no mark in it.
+    let count = if r.refusal == 0 { r.marks } else { 0 };
+    let f = qsm::index_find(trace, &marks, count, number);
+    if f.refusal == 0 && r.refusal == 0 && f.walked > 255 {
         return Err("a walk of more than 255 records".into());
     }
     for part in [0, trace.len() / 3, trace.len() / 2] {

@@ -1,7 +1,6 @@
 //! `judge TRACE LOG`: a log judged as that of a trace.
 
 use crate::Printed;
-use host::qsm;
 
 /// The fields' names, in the order of their numbers 1, 2, 4 and so on.
 const FIELDS: [&str; 8] = [

@@ -1,7 +1,7 @@
 //! `lines PERIOD ROOM`: a trace from standard input, replayed with polling; the lines and drops that come of it.
 
 use crate::Printed;
-use host::qsm::Lines;
+use qsm::Lines;
 
 /// What stands in the buffer before a call: no character of a line.
 const BEFORE: u8 = 0xEE;
@@ -12,7 +12,7 @@ const CAUSES: [&str; 6] = ["none", "FE", "PF", "NF", "length", "OR"];
 /// where there is no line.
 pub fn lines(period: u32, room: usize) -> Printed {
     let trace = crate::standard_input()?;
-    let mut state = Lines::start();
+    let mut state = Lines::new();
     let mut printed = String::new();
     loop {
         let mut buffer = vec![BEFORE; room];

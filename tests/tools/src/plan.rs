@@ -2,7 +2,7 @@
 //! run, and must raise SPIF at its clock and not before.
 
 use crate::Printed;
-use host::qsm::{self, Module, Plan, SetPoints};
+use qsm::{Module, Plan, SetPoints};
 
 /// What a script says. A number that no field can hold makes its set-point, or its pointer, one out of range.
 struct Script {
@@ -96,7 +96,7 @@ fn spif(m: &mut Module) -> bool {
 fn run(plan: Plan) -> Result<(), String> {
     let mut m = Module::new();
     m.write(true, 2, 0x16, 0x7A7E);
-    for put in qsm::writes(plan) {
+    for put in qsm::plan_writes(plan) {
         if m.write(true, put.width, put.offset, put.value).refusal != 0 {
             return Err(format!("the write at {:x} is refused", put.offset));
         }
@@ -120,7 +120,7 @@ fn run(plan: Plan) -> Result<(), String> {
 pub fn check(text: &str) -> Printed {
     let said = script(text)?;
     let plan = said.plan.ok_or("no plan to check")?;
-    if !qsm::accepts(said.points, said.window, plan) {
+    if !qsm::plan_accepts(said.points, said.window, plan) {
         return Ok(b"rejected\n".to_vec());
     }
     run(plan)?;

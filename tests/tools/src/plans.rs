@@ -2,8 +2,8 @@
 //! every set-point's select and word, SCK must turn at each edge, and SPIF must rise at the plan's clock and not before.
 
 use crate::Printed;
-use host::qsm::{self, Plan, SetPoints};
 use host::random::Random;
+use qsm::{Plan, SetPoints};
 use std::io::Write;
 use std::process::{Command, Stdio};
 
@@ -79,7 +79,7 @@ fn varied(random: &mut Random, points: &SetPoints, mut plan: Plan) -> (Plan, Vec
 /// The plan's writes, then a hold for each clock; SPSR is read before the last and after it.
 fn trace(plan: Plan) -> Vec<u8> {
     let mut trace = vec![1, 4, 0x82, 0, 0x16, 0, 0, 0x7A, 0x7E];
-    for put in qsm::writes(plan) {
+    for put in qsm::plan_writes(plan) {
         trace.extend([4, 0x80 | put.width]);
         trace.extend(put.offset.to_be_bytes());
         trace.extend(put.value.to_be_bytes());
@@ -110,7 +110,7 @@ fn played(replay: &str, trace: Vec<u8>) -> Result<Vec<u8>, String> {
 /// What the log of a plan's trace shows, held to the plan.
 fn judge(plan: &Plan, entries: &[Entry], log: &[u8]) -> Result<(), String> {
     let answers: Vec<&[u8]> = log.chunks(qsm::ANSWER).collect();
-    let setup = 2 + qsm::writes(*plan).len();
+    let setup = 2 + qsm::plan_writes(*plan).count();
     if answers.len() != setup + plan.clock as usize + 2 || answers.iter().any(|a| a[1] != 0) {
         return Err("an answer is missing or refused".into());
     }
@@ -151,7 +151,7 @@ pub fn plans(replay: &str, count: usize, seed: usize) -> Printed {
         let (plan, entries) = varied(&mut random, &points, proposal.plan);
         let said = if proposal.refusal != 0 {
             Err("no proposal".into())
-        } else if !qsm::accepts(points, plan.clock, plan) || qsm::accepts(points, plan.clock - 1, plan) {
+        } else if !qsm::plan_accepts(points, plan.clock, plan) || qsm::plan_accepts(points, plan.clock - 1, plan) {
             Err("the checker does not accept it just at its clock".into())
         } else {
             played(replay, trace(plan)).and_then(|log| judge(&plan, &entries, &log))

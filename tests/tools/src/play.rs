@@ -1,7 +1,7 @@
 //! `play [ROOM]`: a trace from standard input, played on a module fresh from reset.
 
 use crate::Printed;
-use host::qsm::{Module, ANSWER};
+use qsm::{Module, ANSWER};
 
 /// The log, in so many bytes of room or in enough. A stop goes to standard error: its refusal, the record's number and its place.
 pub fn play(room: Option<usize>) -> Printed {
