@@ -8,9 +8,7 @@ pub mod Whole
 pub mod Pacing
 pub mod Sampled
 pub mod Grid
-pub mod Serial
+pub mod Receiving
+pub mod Steady
+pub mod Taking
 pub mod Undamaged
-pub mod Waiting
-pub mod Reading
-pub mod InTime
-pub mod Arrives

@@ -91,6 +91,10 @@ dataOf (b ∷ bs) = b .level ∷ dataOf bs
 abbrev pub wordOf : SentFrame → ℕ
 wordOf f = value (dataOf (f .bits))
 
+unfoldable pub wordsSent : List SentFrame → List ℕ
+wordsSent [] = []
+wordsSent (f ∷ fs) = wordOf f ∷ wordsSent fs
+
 -- Frames of n data bits, each of them fair.
 unfoldable pub FairFrames : ℕ → ℕ → List SentFrame → Type 0
 FairFrames s n [] = Unit {0}

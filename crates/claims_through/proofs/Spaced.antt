@@ -22,7 +22,7 @@ use Rattle.claims_deadlines.specs.Deadline as spec
 use Rattle.claims_senders.specs.Heard.{Ended, endedIn, samples, Apart}
 use Rattle.claims_senders.specs.Clocks.{sampledAt}
 use Rattle.claims_senders.specs.Serial.{rxdIn, On, StaysOn}
-use Rattle.claims_senders.proofs.Serial.{Same, due-now, turns, on-step, same-write0, same-write1, same-read, same-scdr}
+use Rattle.claims_senders.proofs.Steady.{Same, due-now, turns, on-step, same-write0, same-write1, same-read, same-scdr}
 
 -- ---- samples
 

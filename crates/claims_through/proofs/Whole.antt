@@ -31,7 +31,7 @@ use Rattle.claims_senders.specs.Undamaged.{Undamaged}
 use Rattle.claims_senders.specs.Undamaged as undamaged
 use Rattle.claims_senders.specs.Arrives.{wordsCame, framesLost, wordsSent}
 use Rattle.claims_senders.proofs.Sampled.{clocks-heard}
-use Rattle.claims_senders.proofs.Serial.{serial-hears}
+use Rattle.claims_senders.proofs.Taking.{taken}
 use Rattle.claims_senders.proofs.Undamaged.{no-damage}
 use Rattle.claims_senders.proofs.Arrives.{words-arrive}
 use Rattle.claims_through.specs.Through.{Ready, sampleOf, bitsIn, Sends, FairLine, CameOrLost, AllEnd, Always, NoDamage, WordsThrough, Through}
