@@ -3,6 +3,7 @@ pub mod Inside
 pub mod Runs
 pub mod Zeros
 pub mod Counts
+pub mod Level
 pub mod Through
 pub mod Whole
 pub mod Pacing
