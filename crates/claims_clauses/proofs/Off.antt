@@ -34,7 +34,8 @@ use Rattle.qsm.proofs.Stored.{state-if, write-keeps, own-keeps}
 use Rattle.claims_clauses.specs.FlagsFall.{RE}
 use Rattle.claims_clauses.specs.SeenBy.{play}
 use Rattle.claims_clauses.specs.Off.{Off, WhileOff}
-use Rattle.claims_clauses.proofs.FlagsFall.{re-is, quarter}
+use Rattle.claims_clauses.proofs.FlagTold.{re-is}
+use Rattle.claims_clauses.proofs.FlagWritten.{quarter}
 
 abbrev Inv : Sci → Type 0
 Inv s = control.RE (s .sccr1) ≡ false → s .receiver ≡ startState (s .receiver)

@@ -34,7 +34,8 @@ use Rattle.qsm.proofs.Booleans.{and-true, and-false, clash, left-or}
 use Rattle.qsm.proofs.Limit.{hold-if}
 use Rattle.claims_clauses.specs.FlagsFall.{after, set, seen, looks, handles, stops, falls, FlagsFall}
 use Rattle.claims_clauses.specs.SeenBy.{play, shownBy, shown, SeenBy, HoldKeeps, FallsBy, SeenClauses}
-use Rattle.claims_clauses.proofs.FlagsFall.{nine, is-raf, set-is, seen-is, flags-fall}
+use Rattle.claims_clauses.proofs.FlagTold.{nine, is-raf, set-is}
+use Rattle.claims_clauses.proofs.FlagsFall.{seen-is, flags-fall}
 
 -- A change of the status that makes no mark of flag k, and does not make it fall.
 module _ (k : ℕ) (other : member k RAF ≡ false) where

@@ -76,7 +76,6 @@ same-scdr true s v upper =
     record { framer = refl; last1 = refl; last2 = refl; last3 = refl; sccr0 = refl; prescaler = refl; bits = refl }
 same-scdr false s v upper = same s
 
-
 pub still-on : (s r : Sci) → On s → Same s r → RE (r .sccr1) ≡ true → r .receiver .asleep ≡ false → On r
 still-on s r o h on awake =
     record {
@@ -87,7 +86,6 @@ still-on s r o h on awake =
           subst (λ (v : ℕ). v < 2 * SCBR (r .sccr0)) (sym (h .prescaler))
           (subst (λ (v : ℕ). s .prescaler < 2 * SCBR v) (sym (h .sccr0)) (o .phase));
     }
-
 
 -- A clock.
 module _ (x : Bool) (s : Sci) (o : On s) where
@@ -129,7 +127,6 @@ module _ (x : Bool) (s : Sci) (o : On s) where
       let l : s .prescaler + 1 < 2 * SCBR (s .sccr0) = leb-false (2 * SCBR (s .sccr0)) (s .prescaler + 1) e in
       record { on = o .on; awake = o .awake; whole = o .whole; phase = omega arith }
 
-
 pub same-write0 : (s : Sci) (v : ℕ) (upper lower : Bool) → On s → Same s (step (writesSccr0 v upper lower) s)
 unfolding step
 same-write0 s v upper lower o = by-cond (Same s) (sccr0Guarded s v upper lower) (λ _. same s) (λ g. same-sccr0 s v upper lower o g)
@@ -144,7 +141,6 @@ pub same-read : (s : Sci) (scsr scdr : Bool) → Same s (step (reads scsr scdr) 
 unfolding step
 same-read s scsr scdr =
     record { framer = refl; last1 = refl; last2 = refl; last3 = refl; sccr0 = refl; prescaler = refl; bits = refl }
-
 
 clock-on : (x : Bool) (s : Sci) (o : On s) (d : Bool) → leb (2 * SCBR (s .sccr0)) (s .prescaler + 1) ≡ d → RE (clocked s x .sccr1) ≡ true →
     clocked s x .receiver .asleep ≡ false → On (clocked s x)

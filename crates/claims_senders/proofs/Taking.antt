@@ -42,12 +42,10 @@ same-heard s r k xs h =
 abbrev Hears : List Step → Type 0
 Hears es = (t : Sci) (k : ℕ) → On t → StaysOn es t → takenIn es t ≡ heardFrom t k (rxdIn es)
 
-
 -- A step that brings no sample.
 quiet : (es : List Step) (s r : Sci) (k : ℕ) → Hears es → On s → Same s r → RE (r .sccr1) ≡ true → r .receiver .asleep ≡ false → StaysOn es r →
     takenIn es r ≡ heardFrom s k (rxdIn es)
 quiet es s r k ih o h on awake stays = ih r k (still-on s r o h on awake) stays ∙ same-heard s r k (rxdIn es) h
-
 
 module _ (x : Bool) (es : List Step) (s : Sci) (k : ℕ) (ih : Hears es) (o : On s) where
   -- A sample.
@@ -87,7 +85,6 @@ module _ (x : Bool) (es : List Step) (s : Sci) (k : ℕ) (ih : Hears es) (o : On
       ap₂ (λ (l : List Frame) (r : Sci). l ++ takenIn es r) (takes-it x s o false (due-now x s o false e)) t
       ∙ count-heard e (ih (turned true false true s x) k (count-on x s o e) (subst (StaysOn es) t stays))
 
-
 one-step : (e : Step) (es : List Step) → Hears es → Hears (e ∷ es)
 unfolding takenIn rxdIn StaysOn step
 one-step reset es ih s k o h = absurd (true≢false (h .0))
@@ -97,7 +94,6 @@ one-step (reads scsr scdr) es ih s k o h = quiet es s _ k ih o (same-read s scsr
 one-step (writesSccr0 v upper lower) es ih s k o h = quiet es s _ k ih o (same-write0 s v upper lower o) (h .1) (h .2) (h .3)
 one-step (writesSccr1 v upper lower) es ih s k o h = quiet es s _ k ih o (same-write1 s v upper lower o (h .1)) (h .1) (h .2) (h .3)
 one-step (writesScdr v upper lower) es ih s k o h = quiet es s _ k ih o (same-scdr lower s v upper) (h .1) (h .2) (h .3)
-
 
 hears : (es : List Step) → Hears es
 unfolding takenIn rxdIn sampledAt endedIn frames
