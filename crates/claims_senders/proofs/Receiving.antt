@@ -55,11 +55,11 @@ pub record On (s : Sci) : Type 0 where
   pub whole : s .sccr0 < 2 ^ 13
   pub phase : s .prescaler < 2 * SCBR (s .sccr0)
 
--- No reset; RE is set and RWU clear after each step. All else is free: reads, SCDR, TE, the requests, writes that are refused.
-unfoldable pub StaysOn : List Step → Sci → Type 0
-StaysOn [] s = Unit {0}
-StaysOn (e ∷ es) s =
-    (resets e ≡ false) × (RE (step e s .sccr1) ≡ true) × (step e s .receiver .asleep ≡ false) × StaysOn es (step e s)
+-- No reset; on and not asleep, RE set and RWU clear, after each step. All else is free: reads, SCDR, TE, the requests, writes that are refused.
+unfoldable pub StaysAwake : List Step → Sci → Type 0
+StaysAwake [] s = Unit {0}
+StaysAwake (e ∷ es) s =
+    (resets e ≡ false) × (RE (step e s .sccr1) ≡ true) × (step e s .receiver .asleep ≡ false) × StaysAwake es (step e s)
 
 -- It searches after three ones.
 pub record Ready (s : Sci) : Type 0 where

@@ -18,7 +18,7 @@ use Rattle.sci.proofs.Reachable.{turned}
 use Rattle.claims_senders.specs.Fair.{SentFrame, line, FairFrames}
 use Rattle.claims_senders.specs.Heard.{Ended, endedIn, frames, asSent}
 use Rattle.claims_senders.specs.Clocks.{sampledAt}
-use Rattle.claims_senders.proofs.Receiving.{rxdIn, takenAt, takenIn, On, StaysOn, Ready}
+use Rattle.claims_senders.proofs.Receiving.{rxdIn, takenAt, takenIn, On, StaysAwake, Ready}
 use Rattle.claims_senders.proofs.Sampled.{clocks-heard}
 use Rattle.claims_senders.proofs.Steady.{Same, same-scdr, still-on, due-now, turns, takes-it, sample-on, count-on, same-write0, same-write1, same-read}
 
@@ -40,10 +40,10 @@ same-heard s r k xs h =
     go f a b c v p n e₁ e₂ e₃ e₄ e₅ e₆ e₇ = rw (e₁, e₂, e₃, e₄, e₅, e₆, e₇)
 
 abbrev Hears : List Step → Type 0
-Hears es = (t : Sci) (k : ℕ) → On t → StaysOn es t → takenIn es t ≡ heardFrom t k (rxdIn es)
+Hears es = (t : Sci) (k : ℕ) → On t → StaysAwake es t → takenIn es t ≡ heardFrom t k (rxdIn es)
 
 -- A step that brings no sample.
-quiet : (es : List Step) (s r : Sci) (k : ℕ) → Hears es → On s → Same s r → RE (r .sccr1) ≡ true → r .receiver .asleep ≡ false → StaysOn es r →
+quiet : (es : List Step) (s r : Sci) (k : ℕ) → Hears es → On s → Same s r → RE (r .sccr1) ≡ true → r .receiver .asleep ≡ false → StaysAwake es r →
     takenIn es r ≡ heardFrom s k (rxdIn es)
 quiet es s r k ih o h on awake stays = ih r k (still-on s r o h on awake) stays ∙ same-heard s r k (rxdIn es) h
 
@@ -72,21 +72,21 @@ module _ (x : Bool) (es : List Step) (s : Sci) (k : ℕ) (ih : Hears es) (o : On
       rw e (h ∙ ap (λ (v : ℕ). frames (endedIn (bitsOf (M (s .sccr1))) k (s .receiver .last1) (s .receiver .last2) (s .receiver .last3) (s .receiver .framer) (sampledAt (2 * SCBR (s .sccr0)) v (rxdIn es)))) z)
 
   clock-heard : (d : Bool) → leb (2 * SCBR (s .sccr0)) (s .prescaler + 1) ≡ d → RE (clocked s x .sccr1) ≡ true → clocked s x .receiver .asleep ≡ false →
-      StaysOn es (clocked s x) → takenAt (clock x) s ++ takenIn es (clocked s x) ≡ heardFrom s k (x ∷ rxdIn es)
+      StaysAwake es (clocked s x) → takenAt (clock x) s ++ takenIn es (clocked s x) ≡ heardFrom s k (x ∷ rxdIn es)
   clock-heard true e on awake stays =
       let t : clocked s x ≡ turned true true true s x = turns x s o true (due-now x s o true e) in
       ap₂ (λ (l : List Frame) (r : Sci). l ++ takenIn es r) (takes-it x s o true (due-now x s o true e)) t
       ∙ sample-heard e
       (ih (turned true true true s x) (suc k)
       (sample-on x s o (subst (λ (r : Sci). RE (r .sccr1) ≡ true) t on) (subst (λ (r : Sci). r .receiver .asleep ≡ false) t awake))
-      (subst (StaysOn es) t stays))
+      (subst (StaysAwake es) t stays))
   clock-heard false e on awake stays =
       let t : clocked s x ≡ turned true false true s x = turns x s o false (due-now x s o false e) in
       ap₂ (λ (l : List Frame) (r : Sci). l ++ takenIn es r) (takes-it x s o false (due-now x s o false e)) t
-      ∙ count-heard e (ih (turned true false true s x) k (count-on x s o e) (subst (StaysOn es) t stays))
+      ∙ count-heard e (ih (turned true false true s x) k (count-on x s o e) (subst (StaysAwake es) t stays))
 
 one-step : (e : Step) (es : List Step) → Hears es → Hears (e ∷ es)
-unfolding takenIn rxdIn StaysOn step
+unfolding takenIn rxdIn StaysAwake step
 one-step reset es ih s k o h = absurd (true≢false (h .0))
 one-step (clock x) es ih s k o h =
     clock-heard x es s k ih o (leb (2 * SCBR (s .sccr0)) (s .prescaler + 1)) refl (h .1) (h .2) (h .3)
@@ -100,7 +100,7 @@ unfolding takenIn rxdIn sampledAt endedIn frames
 hears [] s k o h = refl
 hears (e ∷ es) s k o h = one-step e es (hears es) s k o h
 
-pub taken : (s : Sci) (es : List Step) (fs : List SentFrame) → Ready s → StaysOn es s → rxdIn es ≡ line fs →
+pub taken : (s : Sci) (es : List Step) (fs : List SentFrame) → Ready s → StaysAwake es s → rxdIn es ≡ line fs →
     FairFrames (2 * SCBR (s .sccr0)) (bitsOf (M (s .sccr1))) fs → takenIn es s ≡ asSent fs
 taken s es fs r h e f =
     hears es s 0 (r .on) h

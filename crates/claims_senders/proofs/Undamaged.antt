@@ -31,7 +31,7 @@ use Rattle.sci.proofs.Reachable.{turned, settings-stand}
 use Rattle.claims_senders.specs.Fair.{SentFrame, line, FairFrames}
 use Rattle.claims_senders.specs.Heard.{asSent}
 use Rattle.claims_senders.specs.Undamaged.{Undamaged, RightParity}
-use Rattle.claims_senders.proofs.Receiving.{rxdIn, takenAt, takenIn, resets, On, StaysOn, Ready}
+use Rattle.claims_senders.proofs.Receiving.{rxdIn, takenAt, takenIn, resets, On, StaysAwake, Ready}
 use Rattle.claims_senders.proofs.Steady.{due-now, turns, takes-it, on-step}
 use Rattle.claims_senders.proofs.Taking.{taken}
 
@@ -217,8 +217,8 @@ unfoldable pub Always : List Step → Sci → Type 0
 Always [] s = Unit {0}
 Always (e ∷ es) s = Undamaged (step e s) × Always es (step e s)
 
-goes-on : (es : List Step) (s : Sci) → On s → StaysOn es s → AllGood (s .sccr1) (takenIn es s) → Undamaged s → Always es s
-unfolding StaysOn takenIn Always
+goes-on : (es : List Step) (s : Sci) → On s → StaysAwake es s → AllGood (s .sccr1) (takenIn es s) → Undamaged s → Always es s
+unfolding StaysAwake takenIn Always
 goes-on [] s o h g u = tt
 goes-on (e ∷ es) s o h g u =
     let v : Undamaged (step e s) = step-good e s o (h .0) (good-front (s .sccr1) (takenAt e s) (takenIn es (step e s)) g) u in
@@ -228,7 +228,7 @@ goes-on (e ∷ es) s o h g u =
     (good-back (s .sccr1) (takenAt e s) (takenIn es (step e s)) g) in
     (v, goes-on es (step e s) o′ (h .3) g′ v)
 
-pub no-damage : (s : Sci) (es : List Step) (fs : List SentFrame) → Ready s → StaysOn es s → rxdIn es ≡ line fs →
+pub no-damage : (s : Sci) (es : List Step) (fs : List SentFrame) → Ready s → StaysAwake es s → rxdIn es ≡ line fs →
     FairFrames (2 * SCBR (s .sccr0)) (bitsOf (M (s .sccr1))) fs → RightParity (s .sccr1) fs → Undamaged s → Always es s
 no-damage s es fs r h e f p u =
     goes-on es s (r .on) h (subst (AllGood (s .sccr1)) (sym (taken s es fs r h e f)) (good-sent (s .sccr1) fs p)) u

@@ -12,15 +12,14 @@ use Rattle.qsm.specs.model.Event.{clockLimit}
 use Rattle.qsm.specs.declared.state.Module.{Module}
 use Rattle.qsm.specs.declared.event.Event.{Event}
 use Rattle.claims_histories.specs.History.{run, log}
-use Rattle.claims_polling.specs.Rule.{waiting, started}
+use Rattle.claims_polling.specs.Rule.{lostIn, waiting, started}
 use Rattle.claims_polling.specs.Replays.{replayed}
 use Rattle.tool_assemble.specs.declared.sent.Sent.{Sent}
 use Rattle.claims_assembling.specs.Traces.{held, clocksOf}
 use Rattle.claims_senders.specs.Fair.{SentFrame}
 use Rattle.claims_senders.specs.Rates.{frameAt}
 use Rattle.claims_senders.specs.Undamaged.{Undamaged}
-use Rattle.claims_senders.specs.Arrives.{wordsCame, framesLost}
-use Rattle.claims_through.specs.Through.{Ready, sampleOf, bitsIn, Always}
+use Rattle.claims_through.specs.Through.{Ready, sampleOf, bitsIn, StaysUndamaged, wordsCame}
 
 unfoldable pub Bytes : List ℕ → Type 0
 Bytes [] = Unit {0}
@@ -67,9 +66,9 @@ pub record TextWords : Type 0 where
   pub words : (past : List Event) (s : Sent) (bs : List ℕ) (period since : ℕ) → let m : Module = run past resetModule in
       Bytes bs → InReach s bs period since m →
       let h : List Mark = log (replayed period since (m .clock) (held s 0 bs) m) m in
-      (wordsCame h ≡ bs) × (framesLost h ≡ 0)
+      (wordsCame h ≡ bs) × (lostIn h ≡ 0)
   -- Without parity NF, FE and PF are clear after each event of it, and the figure beside SCDR is 0.
   pub undamaged : (past : List Event) (s : Sent) (bs : List ℕ) (period since : ℕ) → let m : Module = run past resetModule in
       InReach s bs period since m → PE (m .sci .sccr1) ≡ false → Undamaged (m .sci) →
-      Always (replayed period since (m .clock) (held s 0 bs) m) m
+      StaysUndamaged (replayed period since (m .clock) (held s 0 bs) m) m
   pub met : Met
