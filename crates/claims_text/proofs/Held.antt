@@ -28,7 +28,7 @@ use Rattle.claims_senders.specs.Fair.{SentFrame, levels, levelsOf, line}
 use Rattle.claims_senders.specs.Rates.{lastsAt, bitsAt}
 use Rattle.claims_through.proofs.Levels.{actLevels, Fits, Good, hold-good}
 use Rattle.claims_through.proofs.Polls.{Quiet, cut-rests}
-use Rattle.claims_text.specs.Text.{dataBits, byteFrame, textFrames}
+use Rattle.claims_text.specs.Text.{bitsOfByte, byteFrame, textFrames}
 
 -- Each bit's hold fits its record.
 pub record Sendable (s : Sent) : Type 0 where

@@ -34,10 +34,10 @@ use Rattle.claims_through.proofs.Whole.{words-through, none-damaged}
 use Rattle.claims_through.proofs.Levels.{act-levels}
 use Rattle.claims_through.proofs.Polls.{Kept, quiet-stays}
 use Rattle.claims_through.proofs.Meeting.{begun}
-use Rattle.claims_text.specs.Text.{Bytes, dataBits, byteFrame, textFrames, InReach, sender, text, Met, TextWords}
+use Rattle.claims_text.specs.Text.{Bytes, bitsOfByte, byteFrame, textFrames, InReach, sender, text, Met, TextWords}
 use Rattle.claims_text.proofs.Held.{Sendable, Both, text-as}
 
-low-eight : (b : ℕ) → dataBits b ≡ lowBits 8 b
+low-eight : (b : ℕ) → bitsOfByte b ≡ lowBits 8 b
 unfolding lowBits
 low-eight b =
     λ j. is (e₀ j) ∷ is (e₁ j) ∷ is (e₂ j) ∷ is (e₃ j) ∷ is (e₄ j) ∷ is (e₅ j) ∷ is (e₆ j) ∷ is (e₇ j) ∷ []
@@ -69,7 +69,7 @@ low-eight b =
     e₇ : b / 2 ^ 7 ≡ b / 2 / 2 / 2 / 2 / 2 / 2 / 2
     e₇ = omega arith
 
-byte-word : (b : ℕ) → b < 256 → value (dataBits b) ≡ b
+byte-word : (b : ℕ) → b < 256 → value (bitsOfByte b) ≡ b
 byte-word b h = let w : b % 2 ^ 8 ≡ b = omega (arith, h) in ap value (low-eight b) ∙ value-low 8 b ∙ w
 
 text-sent : (s : Sent) (bs : List ℕ) (k : ℕ) → Bytes bs → wordsSent (textFrames s k bs) ≡ bs
@@ -82,7 +82,7 @@ text-fair : (s : Sent) (clocks : ℕ) (bs : List ℕ) (k : ℕ) → 0 < clocks �
 unfolding textFrames FairFrames bitsAt
 text-fair s clocks [] k p r slow fast = tt
 text-fair s clocks (b ∷ bs) k p r slow fast =
-    (refl, rates .rounded clocks (s .clock) (s .baud) (s .baud / 2) k 0 (dataBits b) p r slow fast, text-fair s clocks bs (k + 10) p r slow fast)
+    (refl, rates .rounded clocks (s .clock) (s .baud) (s .baud / 2) k 0 (bitsOfByte b) p r slow fast, text-fair s clocks bs (k + 10) p r slow fast)
 
 first-bit : (s : Sent) → clocksOf s 0 ≡ 0
 unfolding clocksOf
