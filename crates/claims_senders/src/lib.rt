@@ -1,5 +1,5 @@
-// A sender that is not exact is heard word by word: off-rate, with jitter, at any phase, with or without pauses. What it comes to over a
-// module's events is claimed above.
+// A sender that is not exact is heard word by word: off-rate, with jitter, at any phase, with or without pauses. Over a module's events:
+// claims_through.
 ghost use mathlib.Core.Path.{_≡_};
 ghost use mathlib.Core.Bool.{true};
 ghost use Rattle.claims_senders.specs.Heard.{FramesHeard};
