@@ -1,7 +1,17 @@
 pub mod Places
+pub mod FlagTold
+pub mod FlagRead
+pub mod FlagWritten
+pub mod FlagStored
 pub mod FlagsFall
 pub mod SeenBy
 pub mod Starts
+pub mod Figure
+pub mod FigureInStart
+pub mod ByCase
+pub mod FigureBeforeVote
+pub mod FigureInVote
+pub mod FigureAfterVote
 pub mod Sums
 pub mod Noise
 pub mod Witness

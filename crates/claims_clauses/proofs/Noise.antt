@@ -29,7 +29,8 @@ use Rattle.qsm.proofs.Booleans.{and-false, on, clash}
 use Rattle.claims_clauses.specs.Starts.{hear, inFrame}
 use Rattle.claims_clauses.specs.Noise.{disagree, startGives, bitGives, gives, given, stays, FrameNoise, NoiseClauses}
 use Rattle.claims_clauses.proofs.Starts.{searches}
-use Rattle.claims_clauses.proofs.Sums.{disagrees, disagree-small, InStart, InBits, Going, start, bits, goes}
+use Rattle.claims_clauses.proofs.Figure.{disagrees, disagree-small, InStart, InBits, Going, start, bits}
+use Rattle.claims_clauses.proofs.Sums.{goes}
 
 few : (c : ℕ) → bitsOf (M c) ≤ 200
 few c = small (M c)

@@ -32,9 +32,10 @@ use Rattle.qsm.proofs.Booleans.{clash, same-digit}
 use Rattle.qsm.proofs.Limit.{hold-if}
 use Rattle.qsm.proofs.Stored.{state-if, write-keeps, own-keeps}
 use Rattle.claims_clauses.specs.FlagsFall.{RE}
-use Rattle.claims_clauses.specs.SeenBy.{play}
+use Rattle.claims_clauses.specs.SeenBy.{run}
 use Rattle.claims_clauses.specs.Off.{Off, WhileOff}
-use Rattle.claims_clauses.proofs.FlagsFall.{re-is, quarter}
+use Rattle.claims_clauses.proofs.FlagTold.{re-is}
+use Rattle.claims_clauses.proofs.FlagWritten.{quarter}
 
 abbrev Inv : Sci → Type 0
 Inv s = control.RE (s .sccr1) ≡ false → s .receiver ≡ startState (s .receiver)
@@ -123,7 +124,7 @@ stepped m (event.Access (Write s w o v)) i =
     state-if (λ k. Inv (k .sci)) (permits (decideStored m (storedBy m w o v) s w o v)) m (storedBy m w o v .state) 0 0 _
     (λ h. write-keeps (λ k. Inv (k .sci)) written m w o v i) (λ h. i)
 
-played : (es : List Event) (m : Module) → Inv (m .sci) → Inv (play es m .sci)
+played : (es : List Event) (m : Module) → Inv (m .sci) → Inv (run es m .sci)
 played [] m i = i
 played (e ∷ es) m i = played es (step m e .state) (stepped m e i)
 
@@ -145,6 +146,6 @@ is-off r e =
 
 pub while-off : WhileOff
 while-off es off =
-    is-off (play es resetModule .sci .receiver)
+    is-off (run es resetModule .sci .receiver)
     (played es resetModule at-reset
-    (sym (re-word (play es resetModule .sci .receiver .asleep) (play es resetModule .sci .sccr1)) ∙ sym (re-is (play es resetModule)) ∙ off))
+    (sym (re-word (run es resetModule .sci .receiver .asleep) (run es resetModule .sci .sccr1)) ∙ sym (re-is (run es resetModule)) ∙ off))

@@ -33,8 +33,9 @@ use Rattle.qsm.specs.declared.event.Event.the-variants as event
 use Rattle.qsm.proofs.Booleans.{and-true, and-false, clash, left-or}
 use Rattle.qsm.proofs.Limit.{hold-if}
 use Rattle.claims_clauses.specs.FlagsFall.{after, set, seen, looks, handles, stops, falls, FlagsFall}
-use Rattle.claims_clauses.specs.SeenBy.{play, shownBy, shown, SeenBy, HoldKeeps, FallsBy, SeenClauses}
-use Rattle.claims_clauses.proofs.FlagsFall.{nine, is-raf, set-is, seen-is, flags-fall}
+use Rattle.claims_clauses.specs.SeenBy.{run, shownBy, shown, SeenBy, HoldKeeps, FallsBy, SeenClauses}
+use Rattle.claims_clauses.proofs.FlagTold.{nine, is-raf, set-is}
+use Rattle.claims_clauses.proofs.FlagsFall.{seen-is, flags-fall}
 
 -- A change of the status that makes no mark of flag k, and does not make it fall.
 module _ (k : ℕ) (other : member k RAF ≡ false) where
@@ -164,7 +165,7 @@ module _ (k : ℕ) (small : k < 9) (others : k ≡ 5 → ⊥) where
       let done = accessed (set m k) (seen m k) (looks m a) (falls m a k) (set (after m a) k) (seen (after m a) k) (h .1) (law .flag) (law .mark) (law .unset) in
       (done .0 ∙ ap (λ b. (b || (looks m a && set m k)) && set (after m a) k) (h .0), done .1)
 
-  told : (es : List Event) (m : Module) (was : Bool) → Inv m was → seen (play es m) k ≡ shown k es m was
+  told : (es : List Event) (m : Module) (was : Bool) → Inv m was → seen (run es m) k ≡ shown k es m was
   told [] m was h = h .0
   told (e ∷ es) m was h = told es (step m e .state) (shownBy k m e was) (kept m e was h)
 
@@ -184,9 +185,9 @@ plainly false y h t f e = refl
 
 pub falls-by : FallsBy
 falls-by es a k small others =
-    flags-fall (play es resetModule) a k small .flag
-    ∙ plainly (set (play es resetModule) k) (seen (play es resetModule) k || looks (play es resetModule) a) (handles (play es resetModule) a k) (stops (play es resetModule) a) (eqb k 5) (ne-eqb k 5 others)
-    ∙ ap (λ (b : Bool). set (play es resetModule) k && not ((b || looks (play es resetModule) a) && handles (play es resetModule) a k)) (seen-by es k small others)
+    flags-fall (run es resetModule) a k small .flag
+    ∙ plainly (set (run es resetModule) k) (seen (run es resetModule) k || looks (run es resetModule) a) (handles (run es resetModule) a k) (stops (run es resetModule) a) (eqb k 5) (ne-eqb k 5 others)
+    ∙ ap (λ (b : Bool). set (run es resetModule) k && not ((b || looks (run es resetModule) a) && handles (run es resetModule) a k)) (seen-by es k small others)
 
 pub seen-clauses : SeenClauses
 seen-clauses = record { seen-by = seen-by; hold-keeps = holds-keep; falls-by = falls-by }

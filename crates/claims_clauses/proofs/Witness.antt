@@ -20,7 +20,7 @@ use Rattle.claims_clauses.specs.Witness.{FallMet, NoiseMet}
 pub fall-met : FallMet
 unfolding iterate has markSeen fallSeen fall resetModule decode inMap isRestricted peekSerial serialRead putSerial serialUnmodelled serialGuarded queueRead peek put unmodelled guarded fetch fetched store stored admitted decideRead storedBy decideStored decideWrite answerOf afterRead readValue refused reads writes does step
 fall-met =
-    record { set = refl; long = refl; unseen = refl; upper = refl; lower = refl; user = refl; write = refl; shown = refl }
+    record { set = refl; long = refl; unseen = refl; upper = refl; lower = refl; user = refl; write = refl; write-unseen = refl; shown = refl }
 
 pub noise-met : NoiseMet
 unfolding has raise raiseIf fall fallIf startBit dataBit stopBit fixed framed outcome raised entered statusAfter receiverAfter received lowBits lasting

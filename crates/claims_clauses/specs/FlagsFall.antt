@@ -11,6 +11,7 @@ use Rattle.qsm.specs.declared.event.Access.{Access}
 use Rattle.qsm.specs.declared.event.Access.the-variants.{Read, Write}
 use Rattle.qsm.specs.declared.event.Event.the-variants as event
 
+-- The module that an access leaves.
 abbrev pub after : Module → Access → Module
 after m a = step m (event.Access a) .state
 
@@ -66,10 +67,11 @@ abbrev pub falls : Module → Access → ℕ → Bool
 falls m a k = set m k && ((seen m k || looks m a) && handles m a k || (stops m a && eqb k 5))
 
 pub record FlagsFall (m : Module) (a : Access) (k : ℕ) : Type 0 where
-  -- Falls so, and by no other access; and no access raises one.
+  -- It falls so, and by no other access; and no access raises one.
   pub flag : set (after m a) k ≡ set m k && not (falls m a k)
   -- A read of SCSR marks each flag then set, no other access marks one, and a mark lasts until its flag falls.
   pub mark : set m k ≡ true → seen (after m a) k ≡ (seen m k || looks m a) && not (falls m a k)
+  -- A flag that isn't set gets no mark.
   pub unset : set m k ≡ false → seen (after m a) k ≡ true → seen m k ≡ true
 
 -- A write of SCSR, or of SCDR's upper byte alone, does nothing at all.

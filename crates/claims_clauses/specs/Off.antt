@@ -1,5 +1,5 @@
--- Document 01, Receiver: while RE is clear, from a reset on, the receiver is in its start state. So what it has heard when RE is set again, or for the
--- first time, is nothing: `ThreeBefore` then tells the samples since RE rose.
+-- Document 01, Receiver: while RE is clear, from a reset on, the receiver is in its start state. So what it has heard when RE is set again, or
+-- for the first time, is nothing: `ThreeBefore` then tells the samples since RE rose. That RAF falls with RE is in `FlagsFall`.
 use mathlib.Core.Path.{_≡_}
 use mathlib.Core.Bool.{false}
 use mathlib.Core.List.{List}
@@ -9,8 +9,9 @@ use Rattle.sci.specs.declared.receiver.Receiver.{Receiver}
 use Rattle.qsm.specs.model.State.{resetModule}
 use Rattle.qsm.specs.declared.event.Event.{Event}
 use Rattle.claims_clauses.specs.FlagsFall.{RE}
-use Rattle.claims_clauses.specs.SeenBy.{play}
+use Rattle.claims_clauses.specs.SeenBy.{run}
 
+-- Searching, no ones seen, count 0, no frame since; and nothing else is left of what it heard.
 pub record Off (r : Receiver) : Type 0 where
   pub searching : r .framer .framing ≡ false
   pub first : r .last1 ≡ false
@@ -21,4 +22,4 @@ pub record Off (r : Receiver) : Type 0 where
   pub start : r ≡ startState r
 
 abbrev pub WhileOff : Type 0
-WhileOff = (es : List Event) → RE (play es resetModule) ≡ false → Off (play es resetModule .sci .receiver)
+WhileOff = (es : List Event) → RE (run es resetModule) ≡ false → Off (run es resetModule .sci .receiver)

@@ -1,4 +1,5 @@
--- Document 01, Seven refusals: of an access to the serial half's registers, 'permitted' by what a host sees: refusal 0, and a supervisor's or SUPV clear.
+-- Document 01, Seven refusals: of an access to the serial half's registers, 'permitted' by what a host sees: refusal 0, and a supervisor's
+-- or SUPV clear.
 use mathlib.Core.Path.{_≡_}
 use mathlib.Core.Bool.{Bool, true, not, _&&_, _||_}
 use Prim.Native.Nat.{ℕ}

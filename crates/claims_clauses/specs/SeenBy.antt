@@ -12,9 +12,10 @@ use Rattle.qsm.specs.declared.event.Event.the-variants.{Reset, Hold}
 use Rattle.qsm.specs.declared.event.Event.the-variants as event
 use Rattle.claims_clauses.specs.FlagsFall.{after, set, seen, looks, handles}
 
-abbrev pub play : List Event → Module → Module
-play [] m = m
-play (e ∷ es) m = play es (step m e .state)
+-- Each event gets the module that the last one left.
+abbrev pub run : List Event → Module → Module
+run [] m = m
+run (e ∷ es) m = run es (step m e .state)
 
 -- A reset forgets; a hold shows nothing, whatever rises in it; an access that looks at SCSR shows each flag then set; one that falls is forgotten.
 abbrev pub shownBy : ℕ → Module → Event → Bool → Bool
@@ -28,7 +29,7 @@ shown k (e ∷ es) m was = shown k es (step m e .state) (shownBy k m e was)
 
 -- For every flag but RAF, which does not fall by being seen.
 abbrev pub SeenBy : Type 0
-SeenBy = (es : List Event) (k : ℕ) → k < 9 → (k ≡ 5 → ⊥) → seen (play es resetModule) k ≡ shown k es resetModule false
+SeenBy = (es : List Event) (k : ℕ) → k < 9 → (k ≡ 5 → ⊥) → seen (run es resetModule) k ≡ shown k es resetModule false
 
 -- In a hold none of them falls.
 abbrev pub HoldKeeps : Type 0
@@ -40,7 +41,7 @@ HoldKeeps =
 abbrev pub FallsBy : Type 0
 FallsBy =
     (es : List Event) (a : Access) (k : ℕ) → k < 9 → (k ≡ 5 → ⊥) →
-    let m : Module = play es resetModule in
+    let m : Module = run es resetModule in
     set (after m a) k ≡ set m k && not ((shown k es resetModule false || looks m a) && handles m a k)
 
 pub record SeenClauses : Type 0 where

@@ -20,24 +20,28 @@ use Rattle.claims_clauses.specs.Starts.{hear, from, inFrame}
 use Rattle.claims_clauses.specs.Noise.{given, gives, stays}
 
 -- A word waits, its RDRF not seen.
-abbrev pub waiting : Module
-waiting = withSci resetModule (withStatus resetSci (record { flags = flag 0x1C0; seen = flag 0 }))
+abbrev pub wordWaits : Module
+wordWaits = withSci resetModule (withStatus resetSci (record { flags = flag 0x1C0; seen = flag 0 }))
 
 pub record FallMet : Type 0 where
-  pub set : set waiting 6 ≡ true
-  -- A long read at 0C sees it and makes it fall; a byte at 0F alone does not; nor is TDRE, unseen, touched by a write.
-  pub long : falls waiting (Read true 4 0x0C) 6 ≡ true
-  pub unseen : falls waiting (Read true 1 0x0F) 6 ≡ false
-  pub upper : falls (after waiting (Read true 1 0x0D)) (Read true 1 0x0E) 6 ≡ false
-  pub lower : falls (after waiting (Read true 1 0x0D)) (Read true 1 0x0F) 6 ≡ true
-  pub user : falls (after waiting (Read true 1 0x0D)) (Read false 1 0x0F) 6 ≡ false
-  pub write : falls (after waiting (Read true 1 0x0C)) (Write true 1 0x0F 0x41) 8 ≡ true
+  pub set : set wordWaits 6 ≡ true
+  -- A long read at 0C sees it and makes it fall; a byte at 0F alone does not, nor one at 0E, nor a user's; and TDRE, unseen, does not fall by
+  -- a write.
+  pub long : falls wordWaits (Read true 4 0x0C) 6 ≡ true
+  pub unseen : falls wordWaits (Read true 1 0x0F) 6 ≡ false
+  pub upper : falls (after wordWaits (Read true 1 0x0D)) (Read true 1 0x0E) 6 ≡ false
+  pub lower : falls (after wordWaits (Read true 1 0x0D)) (Read true 1 0x0F) 6 ≡ true
+  pub user : falls (after wordWaits (Read true 1 0x0D)) (Read false 1 0x0F) 6 ≡ false
+  pub write : falls (after wordWaits (Read true 1 0x0C)) (Write true 1 0x0F 0x41) 8 ≡ true
+  pub write-unseen : falls wordWaits (Write true 1 0x0F 0x41) 8 ≡ false
   pub shown : shown 8 (event.Access (Read true 1 0x0D) ∷ []) resetModule false ≡ true
 
--- The word 55 with M=0, from a sender whose bits last 14 samples, so that points move; RT5 of the start bit, and a sample in each of two data bits, are wrong.
+-- Samples with a one at place k.
 abbrev pub flip : ℕ → List Bool → List Bool
 flip k xs = take k xs ++ (true ∷ drop (k + 1) xs)
 
+-- The word 55 with M=0, from a sender whose bits last 14 samples, so that points move; RT5 of the start bit and a sample of a data bit are
+-- wrong.
 abbrev pub samples : List Bool
 samples = take 137 (flip 36 (flip 4 (lasting 14 (false ∷ lowBits 8 0x55 ++ (true ∷ [])))))
 

@@ -29,7 +29,7 @@ use Rattle.claims_histories.proofs.Uncounted.{rate-is-all}
 use Rattle.claims_polling.specs.Spacing.{samplesOf}
 use Rattle.claims_polling.specs.Rule.{lostIn}
 use Rattle.claims_polling.proofs.Ruled.{reached}
-use Rattle.claims_deadlines.specs.Deadline.{ageAfter, ageFor, InTimeFor, InTime, SpacedFrom, Keeps, Deadline, AnyLine}
+use Rattle.claims_deadlines.specs.Deadline.{ageAfter, ageFor, InTimeFor, InTime, SpacedFrom, StaysOn, Deadline, AnyLine}
 use Rattle.claims_deadlines.proofs.Lines.{spaced-from}
 use Rattle.claims_deadlines.proofs.Aging.{aged, agedAll, InSteps, KeepsSteps}
 use Rattle.claims_deadlines.proofs.Stands.{none-lost}
@@ -103,7 +103,7 @@ event-keeps (event.Access a) m on h =
     along-keeps (steps (event.Access a) m) (m .sci) on
     (event-along isSccr1 (λ (s : Sci). RE (s .sccr1)) on-part a m (h ∙ sym on))
 
-all-keeps : (es : List Event) (m : Module) → RE (m .sci .sccr1) ≡ true → Keeps es m → KeepsSteps (all es m) (m .sci)
+all-keeps : (es : List Event) (m : Module) → RE (m .sci .sccr1) ≡ true → StaysOn es m → KeepsSteps (all es m) (m .sci)
 all-keeps [] m on h = tt
 all-keeps (e ∷ es) m on h =
     keeps-append (steps e m) (all es (after e m)) (m .sci) (event-keeps e m on (h .0))

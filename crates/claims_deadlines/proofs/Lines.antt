@@ -14,7 +14,7 @@ use Rattle.sci.proofs.Frames.{moved}
 use Rattle.claims_polling.specs.Spacing.{apart}
 use Rattle.claims_polling.proofs.Nearing.{soonest, at-end, end-searches}
 use Rattle.claims_polling.proofs.Spaced.{nears-bits}
-use Rattle.claims_deadlines.specs.Deadline.{counted, FarEnough, SpacedFrom}
+use Rattle.claims_deadlines.specs.Deadline.{sinceEnd, FarEnough, SpacedFrom}
 
 -- The samples since the last end and those until the next can be no fewer.
 abbrev Far : Bool → ℕ → Option ℕ → Framer → Type 0
@@ -27,7 +27,7 @@ far-end moves n (some k) f h e = omega (arith, at-end moves n f e)
 
 far-next : (moves : Bool) (sccr1 : ℕ) (last : Option ℕ) (f : Framer) (three x over : Bool) → ends f ≡ over → Fits (bitsOf (M sccr1)) f →
     (moves ≡ false → adjusts (bitsOf (M sccr1)) f three x ≡ false) → Far moves (bitsOf (M sccr1)) last f →
-    Far moves (bitsOf (M sccr1)) (counted over last) (framed (bitsOf (M sccr1)) f three x)
+    Far moves (bitsOf (M sccr1)) (sinceEnd over last) (framed (bitsOf (M sccr1)) f three x)
 far-next moves sccr1 last f three x true e i u h =
     rw (end-searches (bitsOf (M sccr1)) f three x e) (omega arith)
 far-next moves sccr1 none f three x false e i u h = tt
@@ -41,6 +41,6 @@ spaced-from moves sccr1 a b c f last [] i u h = tt
 spaced-from moves sccr1 a b c f last (x ∷ xs) i u h =
     let n : ℕ = bitsOf (M sccr1) in (
       far-end moves n last f h,
-      spaced-from moves sccr1 x a b (framed n f (a && b && c) x) (counted (ends f) last) xs (moved n f (a && b && c) x i .fits)
+      spaced-from moves sccr1 x a b (framed n f (a && b && c) x) (sinceEnd (ends f) last) xs (moved n f (a && b && c) x i .fits)
           (λ e. u e .1) (far-next moves sccr1 last f (a && b && c) x (ends f) refl i (λ e. u e .0) h),
     )

@@ -35,9 +35,9 @@ use Rattle.claims_histories.specs.History.{after, run, playedClocks, ops, log}
 use Rattle.claims_polling.specs.Spacing.{apart, samplesOf, cut}
 use Rattle.claims_polling.specs.Rule.{waiting, started}
 use Rattle.claims_polling.proofs.Losing.{harmless, harmless-unbroken}
-use Rattle.claims_deadlines.specs.Deadline.{ageAfter, ageFor, InTimeFor, InTime, counted, FarEnough, SpacedFrom}
+use Rattle.claims_deadlines.specs.Deadline.{ageAfter, ageFor, InTimeFor, InTime, sinceEnd, FarEnough, SpacedFrom}
 use Rattle.claims_deadlines.specs.Reached.{Meets, Reached, AnyReached, StillReached, changing, FairReached}
-use Rattle.claims_deadlines.proofs.Ruled.{unbroken-keeps}
+use Rattle.claims_deadlines.proofs.Ruled.{unbroken-stays}
 
 -- That a word is in time, as a test.
 unfoldable inTimeFor : ℕ → ℕ → Bool → Module → ℕ → Bool
@@ -105,7 +105,7 @@ far d (some k) = leb d (suc k)
 unfoldable spaced : ℕ → ℕ → Bool → Bool → Bool → Framer → Option ℕ → List Bool → Bool
 spaced d n a b c f last [] = true
 spaced d n a b c f last (x ∷ xs) =
-    (not (ends f) || far d last) && spaced d n x a b (framed n f (a && b && c) x) (counted (ends f) last) xs
+    (not (ends f) || far d last) && spaced d n x a b (framed n f (a && b && c) x) (sinceEnd (ends f) last) xs
 
 far-true : (over : Bool) (d : ℕ) (last : Option ℕ) → not over || far d last ≡ true → over ≡ true → FarEnough d last
 far-true true d none e z = tt
@@ -117,9 +117,9 @@ spaced-true : (d n : ℕ) (a b c : Bool) (f : Framer) (last : Option ℕ) (xs : 
 unfolding spaced SpacedFrom
 spaced-true d n a b c f last [] e = tt
 spaced-true d n a b c f last (x ∷ xs) e =
-    let rest : Bool = spaced d n x a b (framed n f (a && b && c) x) (counted (ends f) last) xs in (
+    let rest : Bool = spaced d n x a b (framed n f (a && b && c) x) (sinceEnd (ends f) last) xs in (
       far-true (ends f) d last (and-left (not (ends f) || far d last) rest e),
-      spaced-true d n x a b (framed n f (a && b && c) x) (counted (ends f) last) xs (and-right (not (ends f) || far d last) rest e),
+      spaced-true d n x a b (framed n f (a && b && c) x) (sinceEnd (ends f) last) xs (and-right (not (ends f) || far d last) rest e),
     )
 
 abbrev apartBy : ℕ → Sci → List Op → Bool
@@ -142,7 +142,7 @@ meets moves m d limit es c =
     record {
       on = c .on;
       clear = c .clear;
-      keeps = unbroken-keeps es q (c .on) (harmless-unbroken es q (c .quiet));
+      stays = unbroken-stays es q (c .on) (harmless-unbroken es q (c .quiet));
       moving = λ e. still-unmoved n (r .last1) (r .last2) (r .last3) (r .framer) (samplesOf (ops es q)) (c .moving e);
       spaced = spaced-true d n (r .last1) (r .last2) (r .last3) (r .framer) none (samplesOf (ops es q)) (c .apart);
       inTime = in-true limit es q 0 (c .timely);
@@ -155,7 +155,7 @@ any-8 =
     record {
       rate = refl;
       prompt = meets true false 112 (112 * 2) _ (record { on = refl; clear = refl; quiet = refl; moving = λ e. absurd (true≢false e); apart = refl; timely = refl });
-      keeps = refl;
+      delivers = refl;
       late = meets true false 112 (suc (112 * 2)) _ (record { on = refl; clear = refl; quiet = refl; moving = λ e. absurd (true≢false e); apart = refl; timely = refl });
       loses = refl;
     }
@@ -166,7 +166,7 @@ any-9 =
     record {
       rate = refl;
       prompt = meets true true 122 (122 * 2) _ (record { on = refl; clear = refl; quiet = refl; moving = λ e. absurd (true≢false e); apart = refl; timely = refl });
-      keeps = refl;
+      delivers = refl;
       late = meets true true 122 (suc (122 * 2)) _ (record { on = refl; clear = refl; quiet = refl; moving = λ e. absurd (true≢false e); apart = refl; timely = refl });
       loses = refl;
     }
@@ -177,7 +177,7 @@ still-8 =
     record {
       rate = refl;
       prompt = meets false false 154 (154 * 2) _ (record { on = refl; clear = refl; quiet = refl; moving = λ e. refl; apart = refl; timely = refl });
-      keeps = refl;
+      delivers = refl;
       late = meets false false 154 (suc (154 * 2)) _ (record { on = refl; clear = refl; quiet = refl; moving = λ e. refl; apart = refl; timely = refl });
       loses = refl;
     }
@@ -188,7 +188,7 @@ still-9 =
     record {
       rate = refl;
       prompt = meets false true 170 (170 * 2) _ (record { on = refl; clear = refl; quiet = refl; moving = λ e. refl; apart = refl; timely = refl });
-      keeps = refl;
+      delivers = refl;
       late = meets false true 170 (suc (170 * 2)) _ (record { on = refl; clear = refl; quiet = refl; moving = λ e. refl; apart = refl; timely = refl });
       loses = refl;
     }
@@ -199,7 +199,7 @@ fair-8 =
     record {
       rate = refl;
       prompt = meets true false 148 (148 * 2) _ (record { on = refl; clear = refl; quiet = refl; moving = λ e. absurd (true≢false e); apart = refl; timely = refl });
-      keeps = refl;
+      delivers = refl;
       late = meets true false 148 (suc (148 * 2)) _ (record { on = refl; clear = refl; quiet = refl; moving = λ e. absurd (true≢false e); apart = refl; timely = refl });
       loses = refl;
     }
@@ -210,7 +210,7 @@ fair-9 =
     record {
       rate = refl;
       prompt = meets true true 164 (164 * 2) _ (record { on = refl; clear = refl; quiet = refl; moving = λ e. absurd (true≢false e); apart = refl; timely = refl });
-      keeps = refl;
+      delivers = refl;
       late = meets true true 164 (suc (164 * 2)) _ (record { on = refl; clear = refl; quiet = refl; moving = λ e. absurd (true≢false e); apart = refl; timely = refl });
       loses = refl;
     }

@@ -19,7 +19,7 @@ use Rattle.claims_histories.specs.History.{after, run, breaks, Unbroken, log}
 use Rattle.claims_histories.proofs.Lifted.{all, all-log, all-unbroken}
 use Rattle.claims_polling.specs.Rule.{lostIn, polledAfter, Kept}
 use Rattle.claims_polling.proofs.Ruled.{stays}
-use Rattle.claims_deadlines.specs.Deadline.{Keeps}
+use Rattle.claims_deadlines.specs.Deadline.{StaysOn}
 use Rattle.claims_deadlines.proofs.Stands.{lost-read}
 use Rattle.claims_deadlines.proofs.Polling.{polled-kept}
 
@@ -28,11 +28,11 @@ one-stays : (e : Event) (m : Module) → breaks e m ≡ false → after e m .sci
 unfolding run
 one-stays e m h = stays (e ∷ []) m (h, tt) .1
 
-pub unbroken-keeps : (es : List Event) (m : Module) → RE (m .sci .sccr1) ≡ true → Unbroken es m → Keeps es m
-unbroken-keeps [] m on u = tt
-unbroken-keeps (e ∷ es) m on u =
+pub unbroken-stays : (es : List Event) (m : Module) → RE (m .sci .sccr1) ≡ true → Unbroken es m → StaysOn es m
+unbroken-stays [] m on u = tt
+unbroken-stays (e ∷ es) m on u =
     let c : RE (after e m .sci .sccr1) ≡ true = ap RE (one-stays e m (u .0)) ∙ on in
-    (c, unbroken-keeps es (after e m) c (u .1))
+    (c, unbroken-stays es (after e m) c (u .1))
 
 -- With RE clear there is no sample, and so no frame.
 none-sampled : (s : Sci) → RE (s .sccr1) ≡ false → sampling s ≡ false
@@ -60,7 +60,7 @@ kept moves past ess h u w v = go (RE (m .sci .sccr1)) refl
     m = run past resetModule
 
     go : (on : Bool) → RE (m .sci .sccr1) ≡ on → lostIn (log (polledAfter ess m) m) ≡ 0
-    go true on = polled-kept moves past ess on h (unbroken-keeps (polledAfter ess m) m on u) w v
+    go true on = polled-kept moves past ess on h (unbroken-stays (polledAfter ess m) m on u) w v
     go false off =
         ap lostIn (all-log (polledAfter ess m) m)
         ∙ off-lost (all (polledAfter ess m) m) (m .sci) off (all-unbroken (polledAfter ess m) m u)

@@ -89,15 +89,15 @@ module _ (s : Sci) (x : Bool) (d limit : ℕ) (xs : List Bool) (last : Option �
   abbrev next : ℕ
   next = cond (full (s .status) && full (heard s x .status)) (suc k) 0
 
-  old-after : (over : Bool) → ends (s .receiver .framer) ≡ over → Old (spec.counted over last) next (heard s x)
+  old-after : (over : Bool) → ends (s .receiver .framer) ≡ over → Old (spec.sinceEnd over last) next (heard s x)
   old-after true z = λ _. (0, refl, omega arith)
   old-after false z = λ g.
       let f : full (s .status) ≡ true = none-comes s x z g in
       let i = h .old f in
-      let c : spec.counted false last ≡ some (suc (i .0)) = ap (spec.counted false) (i .1) in
+      let c : spec.sinceEnd false last ≡ some (suc (i .0)) = ap (spec.sinceEnd false) (i .1) in
       (suc (i .0), c, rw (f, g) (omega (arith, i .2, due-prescaler s e)))
 
-  sample-stands : Stands d limit xs (spec.counted (ends (s .receiver .framer)) last) next (heard s x)
+  sample-stands : Stands d limit xs (spec.sinceEnd (ends (s .receiver .framer)) last) next (heard s x)
   unfolding SpacedFrom received receiverAfter
   sample-stands =
       record {
@@ -143,7 +143,7 @@ turn : (z : Bool) (s : Sci) (x : Bool) (d limit : ℕ) (os : List Op) (last : Op
     cond (full (s .status) && full (turned true z true s x .status)) (suc k) 0 < limit → Turned d limit (samplesOf os) k z s x
 turn true s x d limit os last k e h b =
     record {
-      last = spec.counted (ends (s .receiver .framer)) last;
+      last = spec.sinceEnd (ends (s .receiver .framer)) last;
       stands = sample-stands s x d limit (samplesOf os) last k h e b;
       kept = λ g.
           unlost (o s x .lost) (o s x .taken) (not (has (t s x) OR)) (s .receiver .framer .shift % 512) g

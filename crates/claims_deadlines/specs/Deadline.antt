@@ -47,10 +47,10 @@ InTime limit (Hold pins rxd n ∷ es) m k =
 InTime limit (event.Access a ∷ es) m k = InTime limit es (after (event.Access a) m) k
 
 -- The samples since the one at which the last frame ended, if one has.
-abbrev pub counted : Bool → Option ℕ → Option ℕ
-counted true last = some 0
-counted false none = none
-counted false (some k) = some (suc k)
+abbrev pub sinceEnd : Bool → Option ℕ → Option ℕ
+sinceEnd true last = some 0
+sinceEnd false none = none
+sinceEnd false (some k) = some (suc k)
 
 abbrev pub FarEnough : ℕ → Option ℕ → Type 0
 FarEnough d none = Unit {0}
@@ -60,24 +60,24 @@ FarEnough d (some k) = d ≤ suc k
 unfoldable pub SpacedFrom : ℕ → ℕ → Bool → Bool → Bool → Framer → Option ℕ → List Bool → Type 0
 SpacedFrom d n a b c f last [] = Unit {0}
 SpacedFrom d n a b c f last (x ∷ xs) =
-    (ends f ≡ true → FarEnough d last) × SpacedFrom d n x a b (framed n f (a && b && c) x) (counted (ends f) last) xs
+    (ends f ≡ true → FarEnough d last) × SpacedFrom d n x a b (framed n f (a && b && c) x) (sinceEnd (ends f) last) xs
 
 abbrev pub SpacedBy : ℕ → List Event → Module → Type 0
 SpacedBy d es m =
     SpacedFrom d (bitsOf (M (m .sci .sccr1))) (m .sci .receiver .last1) (m .sci .receiver .last2) (m .sci .receiver .last3)
     (m .sci .receiver .framer) none (samplesOf (ops es m))
 
--- RE is set after each event; so none is a reset. Requests, TE, RWU and SCDR are free. (SCCR0 and M are guarded.)
-abbrev pub Keeps : List Event → Module → Type 0
-Keeps [] m = Unit {0}
-Keeps (e ∷ es) m = (RE (after e m .sci .sccr1) ≡ true) × Keeps es (after e m)
+-- On, which is RE set, after each event; so none is a reset. Requests, TE, RWU and SCDR are free. (SCCR0 and M are guarded.)
+abbrev pub StaysOn : List Event → Module → Type 0
+StaysOn [] m = Unit {0}
+StaysOn (e ∷ es) m = (RE (after e m .sci .sccr1) ≡ true) × StaysOn es (after e m)
 
 -- From nothing waiting on: where frames end d samples apart, and each word is delivered fewer than d samples' clocks after the clock that
 -- it came in, no frame is lost.
 abbrev pub Deadline : Type 0
 Deadline =
     (d : ℕ) (past es : List Event) → let m : Module = run past resetModule in
-    RE (m .sci .sccr1) ≡ true → waiting m ≡ false → Keeps es m → SpacedBy d es m → InTime (d * (2 * SCBR (m .sci .sccr0))) es m 0 →
+    RE (m .sci .sccr1) ≡ true → waiting m ≡ false → StaysOn es m → SpacedBy d es m → InTime (d * (2 * SCBR (m .sci .sccr0))) es m 0 →
     lostIn (log es m) ≡ 0
 
 -- Of every line frames end 112 samples apart (122 with M=1), and 154 (170) where no sampling point moves.
@@ -90,7 +90,7 @@ AnyLine =
 abbrev pub Served : Type 0
 Served =
     (moves : Bool) (past es : List Event) → let m : Module = run past resetModule in
-    RE (m .sci .sccr1) ≡ true → waiting m ≡ false → Keeps es m → MovingIn moves es m → InTime (longest moves m) es m 0 →
+    RE (m .sci .sccr1) ≡ true → waiting m ≡ false → StaysOn es m → MovingIn moves es m → InTime (longest moves m) es m 0 →
     lostIn (log es m) ≡ 0
 
 -- Polls that come every `limit` clocks at most are in time, whatever else happens.
@@ -103,7 +103,7 @@ Polled =
 abbrev pub PolledKept : Type 0
 PolledKept =
     (moves : Bool) (past : List Event) (ess : List (List Event)) → let m : Module = run past resetModule in
-    RE (m .sci .sccr1) ≡ true → waiting m ≡ false → Keeps (polledAfter ess m) m → Within (longest moves m) ess →
+    RE (m .sci .sccr1) ≡ true → waiting m ≡ false → StaysOn (polledAfter ess m) m → Within (longest moves m) ess →
     MovingIn moves (polledAfter ess m) m → lostIn (log (polledAfter ess m) m) ≡ 0
 
 -- A replay that is polled every `limit` clocks at most is in time, for every trace, resets included; so while RE is set it loses no frame.
@@ -116,7 +116,7 @@ abbrev pub ReplayServed : Type 0
 ReplayServed =
     (moves : Bool) (past : List Event) (period since clock : ℕ) (t : List ℕ) → let m : Module = run past resetModule in
     let es : List Event = replayed period since clock t m in
-    RE (m .sci .sccr1) ≡ true → waiting m ≡ false → since < period → period ≤ longest moves m → Keeps es m → MovingIn moves es m →
+    RE (m .sci .sccr1) ≡ true → waiting m ≡ false → since < period → period ≤ longest moves m → StaysOn es m → MovingIn moves es m →
     lostIn (log es m) ≡ 0
 
 -- As long as a word waits and RIE is set SCI asks; so from the clock that it came in on until it is delivered.

@@ -1,2 +1,3 @@
 pub mod Deadline
 pub mod Reached
+pub mod Claims

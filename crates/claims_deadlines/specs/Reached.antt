@@ -12,8 +12,8 @@ use Rattle.qsm.specs.declared.event.Event.the-variants.{Hold}
 use Rattle.claims_histories.specs.History.{log}
 use Rattle.claims_histories.specs.Witness.{fetch}
 use Rattle.claims_polling.specs.Spacing.{apart, shortest}
-use Rattle.claims_polling.specs.Rule.{waiting, MovingIn, levels, started, Kept}
-use Rattle.claims_deadlines.specs.Deadline.{InTime, SpacedBy, Keeps, Deadline, AnyLine, Served, Polled, PolledKept, ReplayInTime, ReplayServed, Asks, AnswerAsks}
+use Rattle.claims_polling.specs.Rule.{waiting, MovingIn, levels, started}
+use Rattle.claims_deadlines.specs.Deadline.{InTime, SpacedBy, StaysOn}
 
 -- With SCBR 1, so two clocks a sample: the samples up to a frame's end, and those from there to the end of the next, of which the last one is
 -- a one and lacks its last clock.
@@ -31,25 +31,25 @@ readAfter xs ys = almostTwo xs ys ++ (Hold 0 true 1 ∷ fetch)
 pub record Meets (moves m : Bool) (d limit : ℕ) (es : List Event) : Type 0 where
   pub on : RE (started m .sci .sccr1) ≡ true
   pub clear : waiting (started m) ≡ false
-  pub keeps : Keeps es (started m)
+  pub stays : StaysOn es (started m)
   pub moving : MovingIn moves es (started m)
   pub spaced : SpacedBy d es (started m)
   pub inTime : InTime limit es (started m) 0
 
 -- A word w comes and is delivered; and of w and another the other is lost.
-abbrev pub taken : ℕ → List Mark → List Mark
-taken w rest = wordCame w ∷ (statusRead ∷ (wordDelivered w ∷ rest))
+abbrev pub comesDelivered : ℕ → List Mark → List Mark
+comesDelivered w rest = wordCame w ∷ (statusRead ∷ (wordDelivered w ∷ rest))
 
-abbrev pub lost : ℕ → List Mark
-lost w = wordCame w ∷ (frameLost true ∷ (statusRead ∷ (wordDelivered w ∷ [])))
+abbrev pub secondLost : ℕ → List Mark
+secondLost w = wordCame w ∷ (frameLost true ∷ (statusRead ∷ (wordDelivered w ∷ [])))
 
 -- Both meet it, but that the second is late by one clock.
 pub record Reached (moves m : Bool) (d w v : ℕ) (xs ys : List Bool) : Type 0 where
   pub rate : 2 * SCBR (started m .sci .sccr0) ≡ 2
   pub prompt : Meets moves m d (d * 2) (readBefore xs ys)
-  pub keeps : log (readBefore xs ys) (started m) ≡ taken w (taken v [])
+  pub delivers : log (readBefore xs ys) (started m) ≡ comesDelivered w (comesDelivered v [])
   pub late : Meets moves m d (suc (d * 2)) (readAfter xs ys)
-  pub loses : log (readAfter xs ys) (started m) ≡ lost w
+  pub loses : log (readAfter xs ys) (started m) ≡ secondLost w
 
 -- A frame as short as can be twice, and FF twice at 16 samples a bit.
 abbrev pub AnyReached : Bool → ℕ → ℕ → Type 0
@@ -70,20 +70,3 @@ abbrev pub FairReached : Type 0
 FairReached =
     Reached true false 148 5 1 (changing false (16 ∷ (22 ∷ (16 ∷ (17 ∷ (80 ∷ (10 ∷ []))))))) (changing false (16 ∷ (10 ∷ (112 ∷ (10 ∷ [])))))
     × Reached true true 164 5 1 (changing false (16 ∷ (22 ∷ (16 ∷ (17 ∷ (96 ∷ (10 ∷ []))))))) (changing false (16 ∷ (10 ∷ (128 ∷ (10 ∷ [])))))
-
-pub record Deadlines : Type 0 where
-  pub deadline : Deadline
-  pub anyLine : AnyLine
-  pub served : Served
-  pub polled : Polled
-  pub polledKept : PolledKept
-  -- The rule of polls is a case of it.
-  pub kept : Kept
-  pub replayInTime : ReplayInTime
-  pub replayServed : ReplayServed
-  pub asks : Asks
-  pub answerAsks : AnswerAsks
-  -- With SCBR 1 a word read 224 and 244 clocks after it came is too late; where no point moves 308 and 340; and 296 and 328.
-  pub anyReached : AnyReached false 8 0xFF × AnyReached true 9 0x1FF
-  pub stillReached : StillReached false 8 0xFF × StillReached true 9 0x1FF
-  pub fairReached : FairReached

@@ -16,7 +16,7 @@ use Rattle.qsm.specs.declared.event.Access as bus
 use Rattle.qsm.specs.declared.event.Event.the-variants.{Hold}
 use Rattle.qsm.specs.declared.event.Event.the-variants as event
 use Rattle.claims_histories.specs.History.{after}
-use Rattle.claims_histories.specs.Demand2.{Two, halves, line, Tick, Moment, clock, atSender, atReceiver, next, play, clocksIn, Counts, SameSettings, StaysOn, Unchanged, Rests}
+use Rattle.claims_histories.specs.Demand2.{Two, halves, line, Tick, Moment, clock, atSender, atReceiver, next, play, clocksIn, Counts, SameSettings, SameReception, Unchanged, Rests}
 use Rattle.claims_histories.proofs.Follows as follow
 use Rattle.claims_histories.proofs.Pin.{line-driven, line-rests}
 use Rattle.claims_histories.proofs.Given.{accessedAll, makes, access-half}
@@ -54,7 +54,7 @@ sender-halves : (a : bus.Access) (q : Two) → SameSettings (q .sender) (after (
 unfolding next
 sender-halves a q h = ap (λ (s : Sci). joined s (q .receiver .sci)) (access-half a (q .sender) h)
 
-receiver-halves : (a : bus.Access) (q : Two) → StaysOn (q .receiver) (after (event.Access a) (q .receiver)) →
+receiver-halves : (a : bus.Access) (q : Two) → SameReception (q .receiver) (after (event.Access a) (q .receiver)) →
     joined (q .sender .sci) (accessedAll (makes a (q .receiver)) (q .receiver .sci)) ≡ halves (next (atReceiver a) q)
 unfolding next
 receiver-halves a q h = ap (joined (q .sender .sci)) (access-half a (q .receiver) (h .same))

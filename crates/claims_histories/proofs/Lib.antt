@@ -31,11 +31,17 @@ pub mod Clocked
 pub mod Enough
 pub mod Giving
 pub mod Answering
+pub mod LastCame
 pub mod Delivering
+pub mod Enabling
 pub mod Comparing
 pub mod Carried
+pub mod Marking
 pub mod Hears
+pub mod Enters
 pub mod CountSmall
 pub mod Fetching
+pub mod SentBits
+pub mod Appended
 pub mod Sentence
 pub mod SentenceMet

@@ -11,7 +11,7 @@ use Rattle.qsm.specs.declared.state.Module.{Module}
 use Rattle.qsm.specs.declared.event.Access as bus
 use Rattle.qsm.specs.declared.event.Event.the-variants as event
 use Rattle.claims_histories.specs.History.{after}
-use Rattle.claims_histories.specs.Demand2.{SameSettings, StaysOn}
+use Rattle.claims_histories.specs.Demand2.{SameSettings, SameReception}
 use Rattle.claims_histories.proofs.Words.{isSccr1}
 use Rattle.claims_histories.proofs.Follows as follow
 use Rattle.claims_histories.proofs.Parts.{Along, event-along, set-part, on-part, asleep-part}
@@ -50,7 +50,7 @@ same-by [] s h i j = tt
 same-by (e ∷ es) s h i j =
     (record { set = h .0; on = i .0; asleep = j .0 }, same-by es (half.step e s) (h .1) (i .1) (j .1))
 
-pub receiver-kept : (a : bus.Access) (m : Module) → StaysOn m (after (event.Access a) m) → Kept Same (makes a m) (m .sci)
+pub receiver-kept : (a : bus.Access) (m : Module) → SameReception m (after (event.Access a) m) → Kept Same (makes a m) (m .sci)
 receiver-kept a m h =
     all-kept Same same-mild (follow.steps (event.Access a) m) (m .sci) (event-accesses a m) (rates a m (h .same))
     (same-by (follow.steps (event.Access a) m) (m .sci) (event-along isSccr1 (λ (s : Sci). settings (s .sccr1)) set-part a m (h .same .set))

@@ -23,7 +23,7 @@ use Rattle.qsm.specs.declared.event.Access.{Access}
 use Rattle.qsm.specs.declared.event.Access.the-variants.{Write}
 use Rattle.qsm.specs.declared.event.Event.the-variants as event
 use Rattle.claims_histories.specs.History.{after, run}
-use Rattle.claims_histories.specs.Demand2.{SameSettings, StaysOn}
+use Rattle.claims_histories.specs.Demand2.{SameSettings, SameReception}
 use Rattle.claims_histories.proofs.Follows.{follows}
 use Rattle.claims_histories.proofs.Given.{makes}
 
@@ -49,7 +49,7 @@ record LeftOn (s r : Sci) : Type 0 where
 
 -- RIE set beside RE; TE cleared.
 pub request-stays : (m : Module) → m .sci .sccr1 ≡ 4 → m .sci .receiver .asleep ≡ false →
-    StaysOn m (after (event.Access (Write true 2 0x0A 0x24)) m)
+    SameReception m (after (event.Access (Write true 2 0x0A 0x24)) m)
 unfolding wroteSccr1
 request-stays m e a =
     let l : LeftOn (m .sci) (after (event.Access (Write true 2 0x0A 0x24)) m .sci) =

@@ -39,7 +39,7 @@ use Rattle.qsm.specs.declared.event.Event.the-variants.{Reset, Hold}
 use Rattle.qsm.specs.declared.event.Event.the-variants as event
 use Rattle.claims_histories.specs.History.{after, run}
 use Rattle.claims_histories.specs.Demand2.{SameSettings}
-use Rattle.claims_histories.specs.Sentence.{clockOutputs, driven, rxd, Carries, Exchange, sender, starts, receiver, hearing, Asked, CanArrive}
+use Rattle.claims_histories.specs.Sentence.{clockOutputs, driven, rxdIn, Carries, Exchange, sender, starts, receiver, hearing, Asked, CanArrive}
 use Rattle.claims_histories.proofs.Lifted.{all, from-reset}
 use Rattle.claims_histories.proofs.Pin.{pin-shows}
 use Rattle.claims_histories.proofs.Given.{makes, access-half}
@@ -79,12 +79,12 @@ plainRxd (Reset ∷ es) = plainRxd es
 plainRxd (Hold pins x n ∷ es) = replicate n x ++ plainRxd es
 plainRxd (event.Access a ∷ es) = plainRxd es
 
-plain-rxd : (es : List Event) (m : Module) → m .clock + total es ≤ clockLimit → rxd es m ≡ plainRxd es
-unfolding rxd
+plain-rxd : (es : List Event) (m : Module) → m .clock + total es ≤ clockLimit → rxdIn es m ≡ plainRxd es
+unfolding rxdIn
 plain-rxd [] m l = refl
 plain-rxd (Reset ∷ es) m l = plain-rxd es (after Reset m) (omega (arith, after-count Reset m))
 plain-rxd (Hold pins x n ∷ es) m l =
-    ap (λ (k : ℕ). replicate k x ++ rxd es (after (Hold pins x n) m)) (all-played m n (omega arith))
+    ap (λ (k : ℕ). replicate k x ++ rxdIn es (after (Hold pins x n) m)) (all-played m n (omega arith))
     ∙ ap (λ (ys : List Bool). replicate n x ++ ys) (plain-rxd es (after (Hold pins x n) m) (omega (arith, after-count (Hold pins x n) m)))
 plain-rxd (event.Access a ∷ es) m l = plain-rxd es (after (event.Access a) m) (omega (arith, after-count (event.Access a) m))
 
@@ -193,7 +193,7 @@ ready =
     subst Ready (sym at-r)
     (record { control = refl; rate = refl; count = refl; awake = refl; searches = refl; ones = refl; none = refl })
 
-all-rxd : rxd (hearing e) r ≡ levelsFrom 0 308
+all-rxd : rxdIn (hearing e) r ≡ levelsFrom 0 308
 unfolding lowBits stretched
 all-rxd = plain-rxd (hearing e) r (omega (arith, r-low))
 
@@ -213,7 +213,7 @@ asked-of =
       receiverStays =
           (request-stays r (ready .control) (ready .awake), (tt, (tt, (tt, (tt, (tt, (tt, (tt, (tt, (tt, tt))))))))));
       wire =
-          subst (λ (os : List Outputs). Carries os (rxd (hearing e) r)) (sym shown-all)
+          subst (λ (os : List Outputs). Carries os (rxdIn (hearing e) r)) (sym shown-all)
           (subst (Carries (clockOutputs 308 true (held filled 0) ++ [])) (sym all-rxd)
           (carries 308 0 true (held filled 0) filled-on (omega arith)));
       whole =

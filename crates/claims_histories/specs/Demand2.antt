@@ -88,7 +88,7 @@ pub record SameSettings (m left : Module) : Type 0 where
   pub set : settings (left .sci .sccr1) ≡ settings (m .sci .sccr1)
 
 -- At the receiver RE and RWU stay too.
-pub record StaysOn (m left : Module) : Type 0 where
+pub record SameReception (m left : Module) : Type 0 where
   pub same : SameSettings m left
   pub on : RE (left .sci .sccr1) ≡ RE (m .sci .sccr1)
   pub asleep : left .sci .receiver .asleep ≡ m .sci .receiver .asleep
@@ -98,11 +98,11 @@ abbrev pub Unchanged : List Moment → Two → Type 0
 Unchanged [] q = Unit {0}
 Unchanged (clock t ∷ es) q = Counts q × Unchanged es (next (clock t) q)
 Unchanged (atSender a ∷ es) q = SameSettings (q .sender) (after (event.Access a) (q .sender)) × Unchanged es (next (atSender a) q)
-Unchanged (atReceiver a ∷ es) q = StaysOn (q .receiver) (after (event.Access a) (q .receiver)) × Unchanged es (next (atReceiver a) q)
+Unchanged (atReceiver a ∷ es) q = SameReception (q .receiver) (after (event.Access a) (q .receiver)) × Unchanged es (next (atReceiver a) q)
 
 -- Whatever is no counted write (`History`) reconfigures nothing.
 abbrev pub Uncounted : Type 0
-Uncounted = (m : Module) (a : Access) → breaks (event.Access a) m ≡ false → StaysOn m (after (event.Access a) m)
+Uncounted = (m : Module) (a : Access) → breaks (event.Access a) m ≡ false → SameReception m (after (event.Access a) m)
 
 -- The line rests at one before each of these clocks, driven or not.
 abbrev pub Rests : List Moment → Two → Type 0

@@ -72,7 +72,8 @@ Recovered =
     Unbroken later z → Unbroken later′ y → ops later z ≡ ops later′ y → watched later z ≡ watched later′ y
 
 -- Such a receiver there always is, with SCBR equal too and after exactly 352 ones: for every list of events from the read on, to a reset or
--- counted write, one that gets the same samples and permitted reads. Its own clocks, counted from its reset (02, L9), stay within 2^64 - 1 since the module's do.
+-- counted write, one that gets the same samples and permitted reads. Its own clocks, counted from its reset (02, L9), stay within 2^64 - 1
+-- since the module's do.
 pub record Comparison (m : Module) (given : List Op) : Type 0 where
   pub early : List Event
   pub enable : Event
@@ -142,8 +143,8 @@ Afresh = (past es : List Event) (m : Module) → run (past ++ (Reset ∷ es)) m 
 abbrev pub Stepped : Type 0
 Stepped = (m : Module) (e : Event) → after e m ≡ step m e .state
 
--- The count of clocks (02, L9) is not compared: it is none of what `watched` shows, and no hypothesis is about it. It is the number of clocks of the
--- holds not refused since the last reset.
+-- The count of clocks (02, L9) is not compared: it is none of what `watched` shows, and no hypothesis is about it. It is the number of
+-- clocks of the holds not refused since the last reset.
 abbrev pub Counted : Type 0
 Counted = (es : List Event) (m : Module) → run es m .clock ≡ counted es m (m .clock)
 

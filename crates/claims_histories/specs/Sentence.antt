@@ -24,7 +24,7 @@ use Rattle.qsm.specs.declared.event.Event.{Event}
 use Rattle.qsm.specs.declared.event.Event.the-variants.{Reset, Hold}
 use Rattle.qsm.specs.declared.event.Event.the-variants as event
 use Rattle.claims_histories.specs.History.{after, run, playedClocks, log}
-use Rattle.claims_histories.specs.Demand2.{SameSettings, StaysOn, Begins}
+use Rattle.claims_histories.specs.Demand2.{SameSettings, SameReception, Begins}
 
 -- The wire. What a module drives before each clock that its list plays, and RXD's level in each; a hold that is refused plays none.
 abbrev pub clockOutputs : ℕ → Bool → Module → List Outputs
@@ -45,9 +45,9 @@ eventRxd Reset m = []
 eventRxd (Hold pins rxd n) m = replicate (playedClocks m n) rxd
 eventRxd (event.Access a) m = []
 
-unfoldable pub rxd : List Event → Module → List Bool
-rxd [] m = []
-rxd (e ∷ es) m = eventRxd e m ++ rxd es (after e m)
+unfoldable pub rxdIn : List Event → Module → List Bool
+rxdIn [] m = []
+rxdIn (e ∷ es) m = eventRxd e m ++ rxdIn es (after e m)
 
 -- Clock by clock RXD is pin 7 as the answers show it; where that isn't driven, any level.
 abbrev pub Carries : List Outputs → List Bool → Type 0
@@ -57,23 +57,24 @@ Carries (o ∷ os) [] = ⊥
 Carries (o ∷ os) (x ∷ xs) = (bit 7 (mask o) ≡ true → x ≡ bit 7 (levels o)) × Carries os xs
 
 -- Neither reset nor reconfigured, by any event of a list: of the sender SCBR, ILT, PT, PE, M and WAKE stay, of the receiver RE and RWU too.
-abbrev pub Keeps : Event → Module → Type 0
-Keeps Reset m = ⊥
-Keeps (Hold pins rxd n) m = Unit {0}
-Keeps (event.Access a) m = SameSettings m (after (event.Access a) m)
+-- A hold changes none of them.
+abbrev pub SenderKeeps : Event → Module → Type 0
+SenderKeeps Reset m = ⊥
+SenderKeeps (Hold pins rxd n) m = Unit {0}
+SenderKeeps (event.Access a) m = SameSettings m (after (event.Access a) m)
 
 abbrev pub SenderStays : List Event → Module → Type 0
 SenderStays [] m = Unit {0}
-SenderStays (e ∷ es) m = Keeps e m × SenderStays es (after e m)
+SenderStays (e ∷ es) m = SenderKeeps e m × SenderStays es (after e m)
 
-abbrev pub KeepsOn : Event → Module → Type 0
-KeepsOn Reset m = ⊥
-KeepsOn (Hold pins rxd n) m = Unit {0}
-KeepsOn (event.Access a) m = StaysOn m (after (event.Access a) m)
+abbrev pub ReceiverKeeps : Event → Module → Type 0
+ReceiverKeeps Reset m = ⊥
+ReceiverKeeps (Hold pins rxd n) m = Unit {0}
+ReceiverKeeps (event.Access a) m = SameReception m (after (event.Access a) m)
 
 abbrev pub ReceiverStays : List Event → Module → Type 0
 ReceiverStays [] m = Unit {0}
-ReceiverStays (e ∷ es) m = KeepsOn e m × ReceiverStays es (after e m)
+ReceiverStays (e ∷ es) m = ReceiverKeeps e m × ReceiverStays es (after e m)
 
 -- Two modules, each with its own list of events since its reset, holds of any length in both.
 pub record Exchange : Type 0 where
@@ -148,18 +149,18 @@ pub record Asked (h : Exchange) : Type 0 where
   pub receiverStays : ReceiverStays (h .meanwhile) (receiver h)
   -- The wire between them, from when the frame has started to its end: sample 154 (M=0) or 170 of the receiver (K4, K5), at 2 x SCBR clocks
   -- each, of which its prescaler has counted some already. The hold that ends there is not refused 10.
-  pub wire : Carries (driven (h .sending) (after (starts h) (sender h))) (rxd (hearing h) (receiver h))
-  pub whole : length (rxd (hearing h) (receiver h)) + receiver h .sci .prescaler ≡ lastSample h * (2 * SCBR (receiver h .sci .sccr0))
+  pub wire : Carries (driven (h .sending) (after (starts h) (sender h))) (rxdIn (hearing h) (receiver h))
+  pub whole : length (rxdIn (hearing h) (receiver h)) + receiver h .sci .prescaler ≡ lastSample h * (2 * SCBR (receiver h .sci .sccr0))
   pub played′ : passes (run (h .meanwhile) (receiver h)) (suc (h .more)) ≡ false
 
--- All that happens to words but status reads: words that come, frames lost, words delivered, resets.
-abbrev pub words : List Mark → List Mark
-words [] = []
-words (frameLost raises ∷ l) = frameLost raises ∷ words l
-words (wordCame w ∷ l) = wordCame w ∷ words l
-words (statusRead ∷ l) = words l
-words (wordDelivered w ∷ l) = wordDelivered w ∷ words l
-words (wasReset ∷ l) = wasReset ∷ words l
+-- The marks of words, without status reads: words that come, frames lost, words delivered, resets.
+abbrev pub wordMarks : List Mark → List Mark
+wordMarks [] = []
+wordMarks (frameLost raises ∷ l) = frameLost raises ∷ wordMarks l
+wordMarks (wordCame w ∷ l) = wordCame w ∷ wordMarks l
+wordMarks (statusRead ∷ l) = wordMarks l
+wordMarks (wordDelivered w ∷ l) = wordDelivered w ∷ wordMarks l
+wordMarks (wasReset ∷ l) = wasReset ∷ wordMarks l
 
 -- Status, then data.
 abbrev pub readsStatus : Bool → Event
@@ -183,7 +184,7 @@ pub record Arrived (h : Exchange) : Type 0 where
   pub flags : shown (ended h .sci .status) ≡ RDRF
   pub noise : ended h .sci .receiver .noise ≡ 0
   -- It is the one frame that came, and none was lost.
-  pub alone : words (log (hearing h) (receiver h)) ≡ wordCame (bitsSent h) ∷ []
+  pub alone : wordMarks (log (hearing h) (receiver h)) ≡ wordCame (bitsSent h) ∷ []
   -- And so it is read.
   pub reads : (supervisor supervisor′ : Bool) → permits (decideRead (ended h) supervisor 2 0x0C) ≡ true →
       permits (decideRead (after (readsStatus supervisor) (ended h)) supervisor′ 2 0x0E) ≡ true →

@@ -10,8 +10,8 @@ ghost use Rattle.claims_histories.specs.Witness.{Met};
 // Demand 2, of any two modules of one rate and one set of settings: its sentence as one claim, of a frame and its two lists of events, with
 // lists that meet it; and words in turn: what the one sends on pin 7 arrives in the other, word for word.
 // Ruled out: a frame whose bits or stop bit the receiver misses at some count of the prescalers; a second frame heard in one; a parity bit of
-// the other sense; an answer that shows another word; a word lost or marred between frames
-// that are read in time, or where a request is enabled; a frame that ends early where TE is cleared; a pin 7 that doesn't show TXD.
+// the other sense; an answer that shows another word; a word lost or marred between frames that are read in time, or where a request is
+// enabled; a frame that ends early where TE is cleared; a pin 7 that doesn't show TXD.
 pub fn demand2() -> bool
     ensures { λ r. ⌜ (r ≡ true) × Sentence × CanArrive × Demand2 ⌝ }
 {

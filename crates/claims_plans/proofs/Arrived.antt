@@ -30,7 +30,7 @@ use Rattle.claims_plans.proofs.Walked.{Walked, walked}
 use Rattle.claims_plans.proofs.Fresh.{Fresh}
 use Rattle.claims_plans.proofs.Runs.{standing, does-all, sck-shown, sck-parked}
 use Rattle.claims_plans.proofs.Cut.{cut-is-watched}
-use Rattle.claims_plans.proofs.Converting.{edge-in}
+use Rattle.claims_plans.proofs.Shifting.{edge-in}
 use Rattle.claims_plans.proofs.Keeping.{keeps}
 
 no-edge-yet : (q : Qspi) → q .entry .edges ≡ 0 → sck q ≡ cpol (q .registers .spcr0)

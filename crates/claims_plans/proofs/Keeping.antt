@@ -19,7 +19,8 @@ use Rattle.tool_plan.specs.Running.{startOf, edgeNo, Within, Does}
 use Rattle.tool_plan.specs.declared.SetPoints.{SetPoints}
 use Rattle.tool_plan.specs.declared.Plan.{Plan}
 use Rattle.claims_plans.specs.Converter.{Converter, same, chosen, shifted, holdsAt, converterFor, Wired}
-use Rattle.claims_plans.proofs.Converting.{same-itself, same-other, kept, other-edge, not-taken, grows, in-order, sck-in, pcs-in, arrived}
+use Rattle.claims_plans.proofs.Shifting.{same-itself, same-other, kept, other-edge, not-taken, grows, in-order}
+use Rattle.claims_plans.proofs.Converting.{sck-in, pcs-in, arrived}
 
 -- ---- another select
 

@@ -4,6 +4,7 @@ pub mod Fresh
 pub mod Runs
 pub mod Cut
 pub mod Gathered
+pub mod Shifting
 pub mod Converting
 pub mod Keeping
 pub mod Arrived

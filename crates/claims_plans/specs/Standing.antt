@@ -1,4 +1,4 @@
--- Document 02, L10: an accepted plan does what it says, whoever made it, however it was loaded, and under a host that reads while it runs.
+-- Document 02, L10: a module in which a plan stands, and what it does from SPE's rise on under a host that reads while it runs.
 use mathlib.Core.Path.{_≡_}
 use mathlib.Core.Bool.{true, false}
 use mathlib.Core.List.{List}

@@ -10,7 +10,7 @@ use Rattle.sci.specs.model.Bits.{parityBit}
 use Rattle.sci.specs.model.Flags.{NF, RAF, transmitFlags}
 use Rattle.sci.specs.claims.Members.{member}
 use Rattle.sci.specs.model.Status.{has}
-use Rattle.sci.specs.model.Control.{SCBR, RE, PT, PE, sccr0Bits, settings}
+use Rattle.sci.specs.model.Control.{SCBR, RE, PT, PE, M, bitsOf, sccr0Bits, settings}
 use Rattle.sci.specs.model.Framer.{ends, frameOf}
 use Rattle.sci.specs.model.Receiver.{outcome, received, receiverAfter}
 use Rattle.sci.specs.model.Transmitter.{sent}
@@ -28,11 +28,12 @@ use Rattle.sci.proofs.Stages.{read-clear}
 use Rattle.sci.proofs.Rising.{fe-after, pf-after}
 use Rattle.sci.proofs.Figures.{figures}
 use Rattle.sci.proofs.Reachable.{turned, settings-stand}
-use Rattle.claims_senders.specs.Fair.{SentFrame}
+use Rattle.claims_senders.specs.Fair.{SentFrame, line, FairFrames}
 use Rattle.claims_senders.specs.Heard.{asSent}
-use Rattle.claims_senders.specs.Serial.{takenAt, takenIn, resets, On, StaysOn}
-use Rattle.claims_senders.specs.Undamaged.{Undamaged, Always, RightParity, NoDamage}
-use Rattle.claims_senders.proofs.Serial.{due-now, turns, takes-it, on-step, serial-hears}
+use Rattle.claims_senders.specs.Undamaged.{Undamaged, RightParity}
+use Rattle.claims_senders.proofs.Receiving.{rxdIn, takenAt, takenIn, resets, On, StaysAwake, Ready}
+use Rattle.claims_senders.proofs.Steady.{due-now, turns, takes-it, on-step}
+use Rattle.claims_senders.proofs.Taking.{taken}
 
 -- A frame that does no damage, with the settings of c.
 record Good (c : ℕ) (f : Frame) : Type 0 where
@@ -211,8 +212,13 @@ step-settings (writesSccr1 v upper lower) s o u n =
     by-cond (λ (r : Sci). settings (r .sccr1) ≡ settings (s .sccr1)) (sccr1Guarded s v upper lower) (λ _. refl) (λ g. sccr1-settings s v upper lower o g)
 step-settings (writesScdr v upper lower) s o u n = scdr-settings lower s v upper
 
-goes-on : (es : List Step) (s : Sci) → On s → StaysOn es s → AllGood (s .sccr1) (takenIn es s) → Undamaged s → Always Undamaged es s
-unfolding StaysOn takenIn Always
+-- After each step.
+unfoldable pub Always : List Step → Sci → Type 0
+Always [] s = Unit {0}
+Always (e ∷ es) s = Undamaged (step e s) × Always es (step e s)
+
+goes-on : (es : List Step) (s : Sci) → On s → StaysAwake es s → AllGood (s .sccr1) (takenIn es s) → Undamaged s → Always es s
+unfolding StaysAwake takenIn Always
 goes-on [] s o h g u = tt
 goes-on (e ∷ es) s o h g u =
     let v : Undamaged (step e s) = step-good e s o (h .0) (good-front (s .sccr1) (takenAt e s) (takenIn es (step e s)) g) u in
@@ -222,9 +228,7 @@ goes-on (e ∷ es) s o h g u =
     (good-back (s .sccr1) (takenAt e s) (takenIn es (step e s)) g) in
     (v, goes-on es (step e s) o′ (h .3) g′ v)
 
-pub no-damage : NoDamage
-no-damage =
-    record {
-      always = λ s es fs r h e f p u.
-          goes-on es s (r .on) h (subst (AllGood (s .sccr1)) (sym (serial-hears .taken s es fs r h e f)) (good-sent (s .sccr1) fs p)) u;
-    }
+pub no-damage : (s : Sci) (es : List Step) (fs : List SentFrame) → Ready s → StaysAwake es s → rxdIn es ≡ line fs →
+    FairFrames (2 * SCBR (s .sccr0)) (bitsOf (M (s .sccr1))) fs → RightParity (s .sccr1) fs → Undamaged s → Always es s
+no-damage s es fs r h e f p u =
+    goes-on es s (r .on) h (subst (AllGood (s .sccr1)) (sym (taken s es fs r h e f)) (good-sent (s .sccr1) fs p)) u

@@ -8,7 +8,8 @@ use lib.ListN.{length}
 use Rattle.sci.specs.model.Framer.{searching}
 use Rattle.claims_senders.specs.Fair.{SentFrame, FairFrames, levelsOf, wordOf, line}
 use Rattle.claims_senders.specs.Heard.{Ended, endedIn, frames, samples, asSent, earliest, EndInTime, Apart, FramesHeard}
-use Rattle.claims_senders.proofs.Through.{Comes, frame-heard}
+use Rattle.claims_senders.proofs.Level.{Comes}
+use Rattle.claims_senders.proofs.Through.{frame-heard}
 
 -- The ends of frames that begin after t samples.
 record Whole (n t : ℕ) (fs : List SentFrame) (es : List Ended) : Type 0 where

@@ -1,5 +1,5 @@
--- A sender that is not exact: frames whose bits last as they will, and what is asked of them. S is a sample in clocks: with S = 1 lengths are in
--- samples, else in clocks.
+-- A sender that is not exact: frames whose bits last as they will, and what is asked of them. A sample lasts s clocks; with s = 1 all lengths
+-- are in samples.
 use mathlib.Core.Bool.{Bool, true, false, cond, not, _&&_, Bool·beq}
 use mathlib.Core.List.{List, [], _∷_, _++_}
 use mathlib.Core.Path.{_≡_}
@@ -12,7 +12,7 @@ pub record Bit : Type 0 where
   pub level : Bool
   pub lasts : ℕ
 
--- What went by since a fall: bits, and clocks.
+-- What went by since the start, or since a fall: bits, and clocks.
 pub record Count : Type 0 where
   pub bits : ℕ
   pub clocks : ℕ
@@ -90,6 +90,10 @@ dataOf (b ∷ bs) = b .level ∷ dataOf bs
 
 abbrev pub wordOf : SentFrame → ℕ
 wordOf f = value (dataOf (f .bits))
+
+unfoldable pub wordsSent : List SentFrame → List ℕ
+wordsSent [] = []
+wordsSent (f ∷ fs) = wordOf f ∷ wordsSent fs
 
 -- Frames of n data bits, each of them fair.
 unfoldable pub FairFrames : ℕ → ℕ → List SentFrame → Type 0

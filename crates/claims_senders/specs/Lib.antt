@@ -3,7 +3,4 @@ pub mod Heard
 pub mod Witness
 pub mod Rates
 pub mod Clocks
-pub mod Serial
 pub mod Undamaged
-pub mod InTime
-pub mod Arrives

@@ -3,7 +3,8 @@ use mathlib.Core.Bool.{Bool, true, false, cond, not, _&&_}
 use mathlib.Core.List.{List, [], _∷_}
 use mathlib.Core.Path.{_≡_}
 use Prim.Native.Nat.{ℕ}
-use Rattle.claims_senders.specs.Fair.{Bit, Count, EarlyBy, LateBy, longer, following, FairBy, SentFrame, FrameBy, FairFrame, FairFrames, line, wordOf}
+use Rattle.claims_senders.specs.Fair.{Bit, Count, EarlyBy, LateBy, longer, following, FairBy}
+use Rattle.claims_senders.specs.Fair.{SentFrame, FrameBy, FairFrame, FairFrames, line, wordOf}
 use Rattle.claims_senders.specs.Heard.{Ended, heardOf}
 
 abbrev one : ℕ → Bit

@@ -26,9 +26,10 @@ use Rattle.claims_assembling.specs.Traces.{framed, held, clocksOf}
 use Rattle.claims_assembling.proofs.Records.{bytes-give-back}
 use Rattle.claims_senders.specs.Fair.{SentFrame, levels, levelsOf, line}
 use Rattle.claims_senders.specs.Rates.{lastsAt, bitsAt}
-use Rattle.claims_through.proofs.Replays.{actLevels, Good, hold-good, Quiet, cut-rests}
-use Rattle.claims_through.proofs.Replays as replays
-use Rattle.claims_text.specs.Text.{dataBits, byteFrame, textFrames}
+use Rattle.claims_through.proofs.Levels.{actLevels, Good, hold-good}
+use Rattle.claims_through.proofs.Levels as through
+use Rattle.claims_through.proofs.Polls.{Quiet, cut-rests}
+use Rattle.claims_text.specs.Text.{bitsOfByte, byteFrame, textFrames}
 
 -- Each bit's hold fits its record.
 pub record Sendable (s : Sent) : Type 0 where
@@ -63,7 +64,7 @@ module _ (period : ℕ) (pos : 0 < period) where
   HeldAs c t ls = (since : ℕ) → since < period → Both c (scheduled period since c t .acts) ls
 
   none-as : (c : ℕ) → HeldAs c [] []
-  unfolding scheduledFor actLevels replays.Fits Quiet
+  unfolding scheduledFor actLevels through.Fits Quiet
   none-as c since lt = record { good = record { fits = tt; same = refl }; quiet = tt }
 
   hold-next : (on : ℕ → ℕ → Scheduled) (c since pins n : ℕ) (rxd o : Bool) → o ≡ false →

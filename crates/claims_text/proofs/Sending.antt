@@ -18,26 +18,26 @@ use Rattle.qsm.specs.declared.state.Module.{Module}
 use Rattle.qsm.specs.declared.event.Event.{Event}
 use Rattle.claims_histories.specs.History.{run, log}
 use Rattle.tool_lines.specs.Schedule.{scheduled}
-use Rattle.claims_polling.specs.Rule.{on, started}
+use Rattle.claims_polling.specs.Rule.{lostIn, on, started}
 use Rattle.claims_polling.specs.Replays.{replayed}
 use Rattle.tool_assemble.specs.Sent.{edge, bitClocks}
 use Rattle.tool_assemble.specs.declared.sent.Sent.{Sent}
 use Rattle.claims_assembling.specs.Traces.{held, clocksOf}
 use Rattle.claims_deadlines.proofs.Replaying.{in-time}
-use Rattle.claims_senders.specs.Fair.{SentFrame, dataOf, wordOf, FairFrames, FairFrame, line}
+use Rattle.claims_senders.specs.Fair.{SentFrame, dataOf, wordOf, wordsSent, FairFrames, FairFrame, line}
 use Rattle.claims_senders.specs.Heard.{earliest}
 use Rattle.claims_senders.specs.Rates.{bitsAt}
 use Rattle.claims_senders.specs.Undamaged.{RightParity}
-use Rattle.claims_senders.specs.Arrives.{wordsCame, framesLost, wordsSent}
 use Rattle.claims_senders.proofs.Grid.{rates}
-use Rattle.claims_through.specs.Through.{Ready, sampleOf, bitsIn, Sends}
+use Rattle.claims_through.specs.Through.{Ready, sampleOf, bitsIn, OnRxd, wordsCame}
 use Rattle.claims_through.proofs.Whole.{words-through, none-damaged}
-use Rattle.claims_through.proofs.Replays.{Kept, act-levels, quiet-stays}
+use Rattle.claims_through.proofs.Levels.{act-levels}
+use Rattle.claims_through.proofs.Polls.{Kept, quiet-stays}
 use Rattle.claims_through.proofs.Meeting.{begun}
-use Rattle.claims_text.specs.Text.{Bytes, dataBits, byteFrame, textFrames, InReach, sender, text, Met, TextWords}
+use Rattle.claims_text.specs.Text.{Bytes, bitsOfByte, byteFrame, textFrames, InReach, sender, text, Met, TextWords}
 use Rattle.claims_text.proofs.Held.{Sendable, Both, text-as}
 
-low-eight : (b : ℕ) → dataBits b ≡ lowBits 8 b
+low-eight : (b : ℕ) → bitsOfByte b ≡ lowBits 8 b
 unfolding lowBits
 low-eight b =
     λ j. is (e₀ j) ∷ is (e₁ j) ∷ is (e₂ j) ∷ is (e₃ j) ∷ is (e₄ j) ∷ is (e₅ j) ∷ is (e₆ j) ∷ is (e₇ j) ∷ []
@@ -69,7 +69,7 @@ low-eight b =
     e₇ : b / 2 ^ 7 ≡ b / 2 / 2 / 2 / 2 / 2 / 2 / 2
     e₇ = omega arith
 
-byte-word : (b : ℕ) → b < 256 → value (dataBits b) ≡ b
+byte-word : (b : ℕ) → b < 256 → value (bitsOfByte b) ≡ b
 byte-word b h = let w : b % 2 ^ 8 ≡ b = omega (arith, h) in ap value (low-eight b) ∙ value-low 8 b ∙ w
 
 text-sent : (s : Sent) (bs : List ℕ) (k : ℕ) → Bytes bs → wordsSent (textFrames s k bs) ≡ bs
@@ -82,7 +82,7 @@ text-fair : (s : Sent) (clocks : ℕ) (bs : List ℕ) (k : ℕ) → 0 < clocks �
 unfolding textFrames FairFrames bitsAt
 text-fair s clocks [] k p r slow fast = tt
 text-fair s clocks (b ∷ bs) k p r slow fast =
-    (refl, rates .rounded clocks (s .clock) (s .baud) (s .baud / 2) k 0 (dataBits b) p r slow fast, text-fair s clocks bs (k + 10) p r slow fast)
+    (refl, rates .rounded clocks (s .clock) (s .baud) (s .baud / 2) k 0 (bitsOfByte b) p r slow fast, text-fair s clocks bs (k + 10) p r slow fast)
 
 first-bit : (s : Sent) → clocksOf s 0 ≡ 0
 unfolding clocksOf
@@ -124,7 +124,7 @@ sendable s bs period since m i =
     }
 
 sends : (past : List Event) (s : Sent) (bs : List ℕ) (period since : ℕ) → let m : Module = run past resetModule in
-    InReach s bs period since m → Sends (textFrames s 0 bs) (replayed period since (m .clock) (held s 0 bs) m) m
+    InReach s bs period since m → OnRxd (textFrames s 0 bs) (replayed period since (m .clock) (held s 0 bs) m) m
 sends past s bs period since i =
     let m : Module = run past resetModule in
     let ok : Sendable s = sendable s bs period since m i in
@@ -147,13 +147,13 @@ sends past s bs period since i =
 
 words : (past : List Event) (s : Sent) (bs : List ℕ) (period since : ℕ) → Bytes bs → InReach s bs period since (run past resetModule) →
     (wordsCame (log (replayed period since (run past resetModule .clock) (held s 0 bs) (run past resetModule)) (run past resetModule)) ≡ bs)
-    × (framesLost (log (replayed period since (run past resetModule .clock) (held s 0 bs) (run past resetModule)) (run past resetModule)) ≡ 0)
+    × (lostIn (log (replayed period since (run past resetModule .clock) (held s 0 bs) (run past resetModule)) (run past resetModule)) ≡ 0)
 words past s bs period since bytes i =
     let m : Module = run past resetModule in
     let close : period ≤ earliest (bitsIn m) * sampleOf m =
     subst (λ (n : ℕ). period ≤ earliest n * sampleOf m) (sym (i .eight)) (i .close) in
     let es : List Event = replayed period since (m .clock) (held s 0 bs) m in
-    let w : (wordsCame (log es m) ≡ wordsSent (textFrames s 0 bs)) × (framesLost (log es m) ≡ 0) =
+    let w : (wordsCame (log es m) ≡ wordsSent (textFrames s 0 bs)) × (lostIn (log es m) ≡ 0) =
     words-through past es (textFrames s 0 bs) (sends past s bs period since i) (i .clear)
     (in-time (earliest (bitsIn m) * sampleOf m) period since (m .clock) (held s 0 bs) m 0 (i .clear) (i .within) close) in
     (w .0 ∙ text-sent s bs 0 bytes, w .1)

@@ -17,10 +17,9 @@ use Rattle.sci.specs.claims.History.{Step, reset, clock, reads, writesSccr0, wr
 use Rattle.sci.specs.claims.Overrun.{Mark, frameLost, wordCame, lookMarks, deliveryMarks, stepMarks, log}
 use Rattle.sci.specs.declared.framer.Frame.{Frame}
 use Rattle.sci.specs.declared.serial.Sci.{Sci}
-use Rattle.claims_senders.specs.Fair.{SentFrame, dataOf, wordOf, FairFrames}
+use Rattle.claims_senders.specs.Fair.{SentFrame, dataOf, wordOf, wordsSent, FairFrames}
 use Rattle.claims_senders.specs.Heard.{asSent}
-use Rattle.claims_senders.specs.Serial.{takenAt, takenIn, resets, StaysOn}
-use Rattle.claims_senders.specs.Arrives.{wordsSent}
+use Rattle.claims_senders.proofs.Receiving.{takenAt, takenIn, resets, StaysAwake}
 use Rattle.claims_senders.proofs.Counts.{data-length}
 use Rattle.claims_through.specs.Through.{CameOrLost}
 
@@ -68,8 +67,8 @@ none-ends : CameOrLost [] (nine [])
 unfolding CameOrLost nine
 none-ends = tt
 
-pub all-ends : (es : List Step) (s : Sci) → StaysOn es s → CameOrLost (log es s) (nine (takenIn es s))
-unfolding takenIn log StaysOn
+pub all-ends : (es : List Step) (s : Sci) → StaysAwake es s → CameOrLost (log es s) (nine (takenIn es s))
+unfolding takenIn log StaysAwake
 all-ends [] s o = none-ends
 all-ends (e ∷ es) s o =
     subst (CameOrLost (stepMarks e s ++ log es (step e s))) (sym (nine-append (takenAt e s) (takenIn es (step e s))))

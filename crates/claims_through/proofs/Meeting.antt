@@ -22,11 +22,10 @@ use Rattle.qsm.specs.model.Decision.{admitted, decideRead, storedBy, decideStor
 use Rattle.qsm.specs.model.Event.{clockModule, clocks, afterRead, readValue, refused, holds, reads, writes, does}
 use Rattle.claims_histories.specs.History.{run}
 use Rattle.claims_polling.specs.Rule.{waiting, on, started}
-use Rattle.claims_senders.specs.Fair.{levels, line, dataOf, FairFrames, FairFrame}
+use Rattle.claims_senders.specs.Fair.{levels, line, dataOf, wordsSent, FairFrames, FairFrame}
 use Rattle.claims_senders.specs.Heard.{earliest}
 use Rattle.claims_senders.specs.Rates.{LastWithin, Paced}
 use Rattle.claims_senders.specs.Undamaged.{Undamaged}
-use Rattle.claims_senders.specs.Arrives.{wordsSent}
 use Rattle.claims_senders.proofs.Pacing.{bit-times}
 use Rattle.claims_through.specs.Through.{Ready, sampleOf, bitsIn}
 use Rattle.claims_through.specs.Replayed.{heldFor, heldIn, holdsFor, onlyHolds, letter, Met}
@@ -78,7 +77,7 @@ pub begun : Begun
 unfolding iterate has raise raiseIf fall fallIf markSeen fallSeen startBit dataBit stopBit fixed framed outcome raised entered statusAfter receiverAfter received sent sampled clocked wroteSccr0 wroteSccr1 sccr0Guarded sccr1Guarded resetModule decode inMap isRestricted peekSerial serialRead putSerial serialUnmodelled serialGuarded peek put unmodelled guarded fetch fetched store stored admitted decideRead storedBy decideStored decideWrite clockModule clocks afterRead readValue refused holds reads writes does run
 begun =
     record {
-      ready = record { on = refl; awake = refl; runs = lit< tt; searches = refl; one1 = refl; one2 = refl; one3 = refl };
+      ready = record { on = refl; awake = refl; runs = lit< tt; searches = refl; ones = refl };
       clear = refl;
       undamaged = record { nf = refl; fe = refl; pf = refl; figure = refl };
       clock = refl;

@@ -21,8 +21,8 @@ use Rattle.claims_deadlines.specs.Deadline.{FarEnough, SpacedFrom}
 use Rattle.claims_deadlines.specs.Deadline as spec
 use Rattle.claims_senders.specs.Heard.{Ended, endedIn, samples, Apart}
 use Rattle.claims_senders.specs.Clocks.{sampledAt}
-use Rattle.claims_senders.specs.Serial.{rxdIn, On, StaysOn}
-use Rattle.claims_senders.proofs.Serial.{Same, due-now, turns, on-step, same-write0, same-write1, same-read, same-scdr}
+use Rattle.claims_senders.proofs.Receiving.{rxdIn, On, StaysAwake}
+use Rattle.claims_senders.proofs.Steady.{Same, due-now, turns, on-step, same-write0, same-write1, same-read, same-scdr}
 
 -- ---- samples
 
@@ -30,12 +30,12 @@ abbrev sampledFrom : Sci → List Bool → List Bool
 sampledFrom s xs = sampledAt (2 * SCBR (s .sccr0)) (s .prescaler) xs
 
 abbrev Samples : List Step → Type 0
-Samples es = (s : Sci) → On s → StaysOn es s → samplesOf (ops es s) ≡ sampledFrom s (rxdIn es)
+Samples es = (s : Sci) → On s → StaysAwake es s → samplesOf (ops es s) ≡ sampledFrom s (rxdIn es)
 
 same-sampled : (s r : Sci) (xs : List Bool) → Same s r → sampledFrom r xs ≡ sampledFrom s xs
 same-sampled s r xs h = ap₂ (λ (v p : ℕ). sampledAt (2 * SCBR v) p xs) (h .sccr0) (h .prescaler)
 
-quiet : (es : List Step) (s r : Sci) → Samples es → On r → Same s r → StaysOn es r → samplesOf (ops es r) ≡ sampledFrom s (rxdIn es)
+quiet : (es : List Step) (s r : Sci) → Samples es → On r → Same s r → StaysAwake es r → samplesOf (ops es r) ≡ sampledFrom s (rxdIn es)
 quiet es s r ih o h stays = ih r o stays ∙ same-sampled s r (rxdIn es) h
 
 module _ (x : Bool) (es : List Step) (s : Sci) (ih : Samples es) (o : On s) where
@@ -43,24 +43,24 @@ module _ (x : Bool) (es : List Step) (s : Sci) (ih : Samples es) (o : On s) wher
   sampling-now true e = λ j. re-active s (o .on) j && e j && o .on j
   sampling-now false e = λ j. re-active s (o .on) j && e j && o .on j
 
-  clock-samples : (d : Bool) → leb (2 * SCBR (s .sccr0)) (s .prescaler + 1) ≡ d → On (clocked s x) → StaysOn es (clocked s x) →
+  clock-samples : (d : Bool) → leb (2 * SCBR (s .sccr0)) (s .prescaler + 1) ≡ d → On (clocked s x) → StaysAwake es (clocked s x) →
       samplesOf (cond (sampling s) (sample x ∷ []) [] ++ ops es (clocked s x)) ≡ sampledFrom s (x ∷ rxdIn es)
   unfolding sampledAt
   clock-samples true e on stays =
       let t : clocked s x ≡ turned true true true s x = turns x s o true (due-now x s o true e) in
       ap₂ (λ (b : Bool) (r : Sci). samplesOf (cond b (sample x ∷ []) [] ++ ops es r)) (sampling-now true (due-now x s o true e)) t
-      ∙ rw e (ap (λ (l : List Bool). x ∷ l) (ih (turned true true true s x) (subst On t on) (subst (StaysOn es) t stays)))
+      ∙ rw e (ap (λ (l : List Bool). x ∷ l) (ih (turned true true true s x) (subst On t on) (subst (StaysAwake es) t stays)))
   clock-samples false e on stays =
       let t : clocked s x ≡ turned true false true s x = turns x s o false (due-now x s o false e) in
       let l : s .prescaler + 1 < 2 * SCBR (s .sccr0) = leb-false (2 * SCBR (s .sccr0)) (s .prescaler + 1) e in
       let z : min 65535 (s .prescaler + 1) ≡ s .prescaler + 1 = omega arith in
       ap₂ (λ (b : Bool) (r : Sci). samplesOf (cond b (sample x ∷ []) [] ++ ops es r)) (sampling-now false (due-now x s o false e)) t
       ∙ rw e
-      (ih (turned true false true s x) (subst On t on) (subst (StaysOn es) t stays)
+      (ih (turned true false true s x) (subst On t on) (subst (StaysAwake es) t stays)
       ∙ ap (λ (v : ℕ). sampledAt (2 * SCBR (s .sccr0)) v (rxdIn es)) z)
 
 one-step : (e : Step) (es : List Step) → Samples es → Samples (e ∷ es)
-unfolding ops rxdIn StaysOn step
+unfolding ops rxdIn StaysAwake step
 one-step reset es ih s o h = absurd (true≢false (h .0))
 one-step (clock x) es ih s o h =
     clock-samples x es s ih o (leb (2 * SCBR (s .sccr0)) (s .prescaler + 1)) refl (on-step (clock x) s o (h .0) (h .1) (h .2)) (h .3)
@@ -100,7 +100,7 @@ some-spaced d n k t j a b c f (x ∷ xs) e h =
     go : ((t j : ℕ) → suc k ≡ t + j → Apart d (t ∷ Ends n (suc k) x a b (framed n f (a && b && c) x) xs) →
         SpacedFrom d n x a b (framed n f (a && b && c) x) (some j) xs) →
         (over : Bool) → Apart d (t ∷ Following n k a b c f x xs over) →
-        (over ≡ true → FarEnough d (some j)) × SpacedFrom d n x a b (framed n f (a && b && c) x) (spec.counted over (some j)) xs
+        (over ≡ true → FarEnough d (some j)) × SpacedFrom d n x a b (framed n f (a && b && c) x) (spec.sinceEnd over (some j)) xs
     go ih true h = let l : t + d ≤ suc k = h .0 in (λ _. omega (arith, l, e), ih (suc k) 0 (omega arith) (h .1))
     go ih false h = (λ z. absurd (true≢false (sym z)), ih t (suc j) (omega (arith, e)) h)
 
@@ -111,6 +111,6 @@ none-spaced d n k a b c f (x ∷ xs) h = go (none-spaced d n (suc k) x a b (fram
   where
     go : (Apart d (Ends n (suc k) x a b (framed n f (a && b && c) x) xs) → SpacedFrom d n x a b (framed n f (a && b && c) x) none xs) →
         (over : Bool) → Apart d (Following n k a b c f x xs over) →
-        (over ≡ true → FarEnough d none) × SpacedFrom d n x a b (framed n f (a && b && c) x) (spec.counted over none) xs
+        (over ≡ true → FarEnough d none) × SpacedFrom d n x a b (framed n f (a && b && c) x) (spec.sinceEnd over none) xs
     go ih true h = (λ _. tt, some-spaced d n (suc k) (suc k) 0 x a b (framed n f (a && b && c) x) xs (omega arith) h)
     go ih false h = (λ _. tt, ih h)

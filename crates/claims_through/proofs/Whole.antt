@@ -1,14 +1,13 @@
 -- A fair sender over the module's events, by the steps of its serial half. Assumes nothing.
-use mathlib.Core.Path.{_≡_, refl, ap, sym, subst, _∙_}
-use mathlib.Core.Bool.{Bool, true, false}
+use mathlib.Core.Path.{_≡_, refl, ap, ap₂, sym, subst, _∙_}
+use mathlib.Core.Bool.{Bool, true, false, _&&_, false≢true}
 use mathlib.Core.List.{List, [], _∷_, _++_}
 use mathlib.Core.Option.{none}
-use Prim.Native.Nat.{ℕ, _+_, _*_, _^_, _≤_, _<_}
+use Prim.Native.Nat.{ℕ, _*_, _^_, _<_}
 use native.Mathlib.Omega.{arith}
-use native.Mathlib.Nat.{mul-le-mul-right}
 use Rattle.sci.specs.model.Control.{SCBR, M}
 use Rattle.sci.specs.model.Framer.{searching}
-use Rattle.sci.specs.claims.Overrun.{Mark}
+use Rattle.sci.specs.claims.Overrun.{Mark, frameLost, wordCame, statusRead, wordDelivered, wasReset}
 use Rattle.sci.specs.claims.Overrun as marks
 use Rattle.sci.specs.claims.History.{Step}
 use Rattle.sci.specs.claims.History as sci
@@ -17,26 +16,26 @@ use Rattle.sci.specs.declared.serial.Sci.{Sci}
 use Rattle.qsm.specs.model.State.{resetModule}
 use Rattle.qsm.specs.declared.state.Module.{Module}
 use Rattle.qsm.specs.declared.event.Event.{Event}
-use Rattle.claims_histories.specs.History.{after, run}
+use Rattle.claims_histories.specs.History.{after, run, log}
 use Rattle.claims_histories.proofs.Follows.{steps, follows}
 use Rattle.claims_histories.proofs.Lifted.{all, all-ops, all-log}
 use Rattle.claims_histories.proofs.Uncounted.{rate-is-all}
 use Rattle.claims_polling.specs.Spacing.{samplesOf}
-use Rattle.claims_deadlines.specs.Deadline.{SpacedFrom}
-use Rattle.claims_senders.specs.Fair.{SentFrame, line}
+use Rattle.claims_polling.specs.Rule.{lostIn}
+use Rattle.claims_deadlines.specs.Deadline.{SpacedFrom, StaysOn}
+use Rattle.claims_deadlines.proofs.Events.{deadline}
+use Rattle.claims_senders.specs.Fair.{SentFrame, wordsSent, line}
 use Rattle.claims_senders.specs.Heard.{earliest}
 use Rattle.claims_senders.specs.Clocks.{sampledAt}
-use Rattle.claims_senders.specs.Serial as serial
 use Rattle.claims_senders.specs.Undamaged.{Undamaged}
-use Rattle.claims_senders.specs.Undamaged as undamaged
-use Rattle.claims_senders.specs.Arrives.{wordsCame, framesLost, wordsSent}
+use Rattle.claims_senders.proofs.Receiving as serial
 use Rattle.claims_senders.proofs.Sampled.{clocks-heard}
-use Rattle.claims_senders.proofs.Serial.{serial-hears}
+use Rattle.claims_senders.proofs.Taking.{taken}
 use Rattle.claims_senders.proofs.Undamaged.{no-damage}
-use Rattle.claims_senders.proofs.Arrives.{words-arrive}
-use Rattle.claims_through.specs.Through.{Ready, sampleOf, bitsIn, Sends, FairLine, CameOrLost, AllEnd, Always, NoDamage, WordsThrough, Through}
+use Rattle.claims_senders.proofs.Undamaged as undamaged
+use Rattle.claims_through.specs.Through.{StaysAwake, Ready, sampleOf, bitsIn, OnRxd, FairLine, CameOrLost, AllEnd, StaysUndamaged, NoDamage, wordsCame, WordsThrough, Through}
 use Rattle.claims_through.proofs.Small.{since-small}
-use Rattle.claims_through.proofs.Steps.{all-levels, all-stays, all-in-time}
+use Rattle.claims_through.proofs.Steps.{all-levels, all-stays}
 use Rattle.claims_through.proofs.Ended.{nine, all-ends, nine-sent}
 use Rattle.claims_through.proofs.Spaced.{all-samples, none-spaced}
 
@@ -47,12 +46,19 @@ positive n h = omega arith
 whole-small : (v : ℕ) → v ≡ SCBR v → v < 2 ^ 13
 whole-small v e = omega arith
 
+each : (a b c : Bool) → a && b && c ≡ true → (a ≡ true) × (b ≡ true) × (c ≡ true)
+each true true true h = (refl, refl, refl)
+each true true false h = absurd (false≢true h)
+each true false c h = absurd (false≢true h)
+each false b c h = absurd (false≢true h)
+
 module _ (past es : List Event) (fs : List SentFrame) where
   abbrev m : Module
   m = run past resetModule
 
   half-ready : Ready m → serial.Ready (m .sci)
   half-ready r =
+      let ones = each (m .sci .receiver .last1) (m .sci .receiver .last2) (m .sci .receiver .last3) (r .ones) in
       record {
         on =
             record {
@@ -62,16 +68,16 @@ module _ (past es : List Event) (fs : List SentFrame) where
               phase = since-small past (positive (SCBR (m .sci .sccr0)) (r .runs));
             };
         searches = r .searches;
-        one1 = r .one1;
-        one2 = r .one2;
-        one3 = r .one3;
+        one1 = ones .0;
+        one2 = ones .1;
+        one3 = ones .2;
       }
 
-  module _ (h : Sends fs es m) where
+  module _ (h : OnRxd fs es m) where
     r : serial.Ready (m .sci)
     r = half-ready (h .ready)
 
-    stays : serial.StaysOn (all es m) (m .sci)
+    stays : serial.StaysAwake (all es m) (m .sci)
     stays = all-stays es m (h .ready .on) (h .ready .awake) (h .stays)
 
     levels : serial.rxdIn (all es m) ≡ line fs
@@ -84,7 +90,7 @@ module _ (past es : List Event) (fs : List SentFrame) where
     half-ends : CameOrLost (marks.log (all es m) (m .sci)) (wordsSent fs)
     half-ends =
         subst (CameOrLost (marks.log (all es m) (m .sci)))
-        (ap nine (serial-hears .taken (m .sci) (all es m) fs r stays levels (h .fair)) ∙ nine-sent (sampleOf m) (M (m .sci .sccr1)) fs (h .fair))
+        (ap nine (taken (m .sci) (all es m) fs r stays levels (h .fair)) ∙ nine-sent (sampleOf m) (M (m .sci .sccr1)) fs (h .fair))
         (all-ends (all es m) (m .sci) stays)
 
     half-spaced : SpacedFrom (earliest (bitsIn m)) (bitsIn m) (m .sci .receiver .last1) (m .sci .receiver .last2) (m .sci .receiver .last3) (m .sci .receiver .framer) none
@@ -112,22 +118,22 @@ all-end past es fs h =
 
 -- ---- after each event
 
-always-run : (es : List Step) (s : Sci) → Undamaged s → undamaged.Always Undamaged es s → Undamaged (sci.run es s)
+always-run : (es : List Step) (s : Sci) → Undamaged s → undamaged.Always es s → Undamaged (sci.run es s)
 unfolding undamaged.Always sci.run
 always-run [] s u h = u
 always-run (e ∷ es) s u h = always-run es (sci.step e s) (h .0) (h .1)
 
-always-first : (es fs : List Step) (s : Sci) → undamaged.Always Undamaged (es ++ fs) s → undamaged.Always Undamaged es s
+always-first : (es fs : List Step) (s : Sci) → undamaged.Always (es ++ fs) s → undamaged.Always es s
 unfolding undamaged.Always
 always-first [] fs s h = tt
 always-first (e ∷ es) fs s h = (h .0, always-first es fs (sci.step e s) (h .1))
 
-always-rest : (es fs : List Step) (s : Sci) → undamaged.Always Undamaged (es ++ fs) s → undamaged.Always Undamaged fs (sci.run es s)
+always-rest : (es fs : List Step) (s : Sci) → undamaged.Always (es ++ fs) s → undamaged.Always fs (sci.run es s)
 unfolding undamaged.Always sci.run
 always-rest [] fs s h = h
 always-rest (e ∷ es) fs s h = always-rest es fs (sci.step e s) (h .1)
 
-all-always : (es : List Event) (m : Module) → Undamaged (m .sci) → undamaged.Always Undamaged (all es m) (m .sci) → Always es m
+all-always : (es : List Event) (m : Module) → Undamaged (m .sci) → undamaged.Always (all es m) (m .sci) → StaysUndamaged es m
 all-always [] m u h = tt
 all-always (e ∷ es) m u h =
     let f : after e m .sci ≡ sci.run (steps e m) (m .sci) = follows e m in
@@ -135,29 +141,39 @@ all-always (e ∷ es) m u h =
     subst Undamaged (sym f) (always-run (steps e m) (m .sci) u (always-first (steps e m) (all es (after e m)) (m .sci) h)) in (
       v,
       all-always es (after e m) v
-          (subst (undamaged.Always Undamaged (all es (after e m))) (sym f) (always-rest (steps e m) (all es (after e m)) (m .sci) h)),
+          (subst (undamaged.Always (all es (after e m))) (sym f) (always-rest (steps e m) (all es (after e m)) (m .sci) h)),
     )
 
 pub none-damaged : NoDamage
 none-damaged past es fs h p u =
     let m : Module = run past resetModule in
-    all-always es m u (no-damage .always (m .sci) (all es m) fs (r past es fs h) (stays past es fs h) (levels past es fs h) (h .fair) p u)
+    all-always es m u (no-damage (m .sci) (all es m) fs (r past es fs h) (stays past es fs h) (levels past es fs h) (h .fair) p u)
 
 -- ---- in time
 
-limit-positive : (n s : ℕ) → 0 < s → 0 < (16 * n + 20) * s
-limit-positive n s h = omega (arith, mul-le-mul-right s (le n))
-  where
-    le : (n : ℕ) → 1 ≤ 16 * n + 20
-    le n = omega arith
+stays-on : (es : List Event) (m : Module) → StaysAwake es m → StaysOn es m
+stays-on [] m h = tt
+stays-on (e ∷ es) m h = (h .0, stays-on es (after e m) (h .2))
+
+-- Where none is lost each word comes.
+all-came : (h : List Mark) (ws : List ℕ) → CameOrLost h ws → lostIn h ≡ 0 → wordsCame h ≡ ws
+unfolding CameOrLost wordsCame
+all-came [] [] c l = refl
+all-came [] (w ∷ ws) c l = absurd c
+all-came (frameLost raises ∷ h) [] c l = absurd c
+all-came (frameLost raises ∷ h) (w ∷ ws) c l = absurd (omega (arith, l))
+all-came (wordCame v ∷ h) [] c l = absurd c
+all-came (wordCame v ∷ h) (w ∷ ws) c l = ap₂ (λ (u : ℕ) (us : List ℕ). u ∷ us) (c .0) (all-came h ws (c .1) l)
+all-came (statusRead ∷ h) ws c l = all-came h ws c l
+all-came (wordDelivered v ∷ h) ws c l = all-came h ws c l
+all-came (wasReset ∷ h) ws c l = absurd c
 
 pub words-through : WordsThrough
 words-through past es fs h clear t =
     let m : Module = run past resetModule in
-    subst (λ (l : List Mark). (wordsCame l ≡ wordsSent fs) × (framesLost l ≡ 0)) (sym (all-log es m))
-    (words-arrive .arrive (m .sci) (all es m) fs (r past es fs h) clear (stays past es fs h) (levels past es fs h) (h .fair)
-    (all-in-time (earliest (bitsIn m) * sampleOf m) es m (limit-positive (bitsIn m) (sampleOf m) (positive (SCBR (m .sci .sccr0)) (h .ready .runs)))
-    (stays past es fs h) t))
+    let none : lostIn (log es m) ≡ 0 =
+    deadline (earliest (bitsIn m)) past es (h .ready .on) clear (stays-on es m (h .stays)) (fair-line past es fs h) t in
+    (all-came (log es m) (wordsSent fs) (all-end past es fs h) none, none)
 
 pub through : Through
 through =

@@ -16,23 +16,23 @@ use Rattle.trace.specs.declared.Parsed.{Parsed}
 use Rattle.trace.specs.declared.Parsed.the-variants.{Record, Unknown, Cut}
 use Rattle.tool_lines.specs.Schedule.{clockAfter, stops}
 use Rattle.claims_histories.specs.History.{run, log}
-use Rattle.claims_polling.specs.Rule.{waiting, clocksIn, started}
+use Rattle.claims_histories.specs.Sentence.{rxdIn}
+use Rattle.claims_polling.specs.Rule.{lostIn, waiting, clocksIn, started}
 use Rattle.claims_polling.specs.Replays.{replayed}
-use Rattle.claims_senders.specs.Fair.{Bit, SentFrame, line, FairFrames}
+use Rattle.claims_senders.specs.Fair.{Bit, SentFrame, wordsSent, line, FairFrames}
 use Rattle.claims_senders.specs.Heard.{earliest}
 use Rattle.claims_senders.specs.Undamaged.{Undamaged}
-use Rattle.claims_senders.specs.Arrives.{wordsCame, framesLost, wordsSent}
-use Rattle.claims_through.specs.Through.{rxdIn, StaysOn, Ready, sampleOf, bitsIn}
+use Rattle.claims_through.specs.Through.{StaysAwake, Ready, sampleOf, bitsIn, wordsCame}
 
 -- The levels of an event, and of events none of which is refused.
-abbrev pub levelsOf : Event → List Bool
-levelsOf Reset = []
-levelsOf (Hold pins rxd n) = replicate n rxd
-levelsOf (event.Access a) = []
+abbrev pub eventLevels : Event → List Bool
+eventLevels Reset = []
+eventLevels (Hold pins rxd n) = replicate n rxd
+eventLevels (event.Access a) = []
 
 unfoldable pub heldLevels : List Event → List Bool
 heldLevels [] = []
-heldLevels (e ∷ es) = levelsOf e ++ heldLevels es
+heldLevels (e ∷ es) = eventLevels e ++ heldLevels es
 
 -- Within the limit of clocks no hold is refused.
 abbrev pub AllHeld : Type 0
@@ -40,7 +40,7 @@ AllHeld = (es : List Event) (m : Module) → m .clock + clocksIn es ≤ clockLim
 
 -- RXD's levels in what a replay plays of a trace, so many clocks since reset; polls play no part in it.
 abbrev pub heldNext : (ℕ → List ℕ → List Bool) → ℕ → List ℕ → Parsed → List Bool
-heldNext on clock t (Record e n) = cond (eqb (stops clock e) 0) (levelsOf e ++ on (clockAfter clock e) (drop n t)) []
+heldNext on clock t (Record e n) = cond (eqb (stops clock e) 0) (eventLevels e ++ on (clockAfter clock e) (drop n t)) []
 heldNext on clock t Unknown = []
 heldNext on clock t Cut = []
 
@@ -75,7 +75,7 @@ onlyHolds t = holdsFor (length t) t
 -- The receiver stays on and awake in a replay of holds.
 abbrev pub HoldsStay : Type 0
 HoldsStay =
-    (period since clock : ℕ) (t : List ℕ) (m : Module) → Ready m → onlyHolds t ≡ true → StaysOn (replayed period since clock t m) m
+    (period since clock : ℕ) (t : List ℕ) (m : Module) → Ready m → onlyHolds t ≡ true → StaysAwake (replayed period since clock t m) m
 
 -- From a receiver that is ready on, with a poll every `period` clocks: 148 samples (164 with 9 bits) at most.
 abbrev pub HeldThrough : Type 0
@@ -84,7 +84,7 @@ HeldThrough =
     let es : List Event = replayed period since (m .clock) t m in
     Ready m → waiting m ≡ false → onlyHolds t ≡ true → heldIn (m .clock) t ≡ line fs → FairFrames (sampleOf m) (bitsIn m) fs →
     since < period → period ≤ earliest (bitsIn m) * sampleOf m →
-    (wordsCame (log es m) ≡ wordsSent fs) × (framesLost (log es m) ≡ 0)
+    (wordsCame (log es m) ≡ wordsSent fs) × (lostIn (log es m) ≡ 0)
 
 -- There is such a replay. SCBR 1, RE and three ones; and 41 twice, at 31 clocks a bit for 32, with polls every 296 clocks.
 abbrev hold : ℕ → ℕ → List ℕ

@@ -24,5 +24,6 @@ pub mod ReadsBack
 pub mod Accepts
 pub mod RamReads
 pub mod Sizes
+pub mod OtherWords
 pub mod Elsewhere
 pub mod Registers

@@ -97,21 +97,24 @@ pub record AtRest (m : Module) : Type 0 where
   pub RE : bit 2 (reading m 2 0x0A .value) ≡ false
   pub frame : runs (m .sci .transmitter) ≡ false
 
--- The bits of a word whose setting is refused: STOP and FRZ; LOOPS, WOMS and SBK; WOMQ; SPE (with MSTR clear); LOOPQ. And BITS 1 to 7.
+-- The bits of a word whose setting is refused: STOP and FRZ; LOOPS, WOMS and SBK; WOMQ; SPE (with MSTR clear); LOOPQ.
 abbrev pub refusedBits : ℕ → ℕ
 refusedBits offset =
     cond (eqb offset 0x00) 0xE000
     (cond (eqb offset 0x0A) 0x6001
     (cond (eqb offset 0x18) 0x4000 (cond (eqb offset 0x1A) 0x8000 (cond (eqb offset 0x1E) 0x0400 0))))
 
+-- And BITS (13:10 of SPCR0) 1 to 7.
+abbrev pub refusedBITS : ℕ → ℕ → Bool
+refusedBITS offset v = eqb offset 0x18 && (leb 1 (v / 1024 % 16) && leb (v / 1024 % 16) 7)
+
 -- At rest a word of the map without these is let through.
 abbrev pub Accepted : Module → ℕ → Row → Type 0
-Accepted m v r = bitAnd v (refusedBits (r .offset)) ≡ 0 → writing m 2 (r .offset) v .answer .refusal ≡ 0
+Accepted m v r =
+    bitAnd v (refusedBits (r .offset)) ≡ 0 → refusedBITS (r .offset) v ≡ false → writing m 2 (r .offset) v .answer .refusal ≡ 0
 
 abbrev pub Accepts : Type 0
-Accepts =
-    (m : Module) (v : ℕ) → AtRest m → v < 65536 → leb 1 (v / 1024 % 16) && leb (v / 1024 % 16) 7 ≡ false →
-    Each (Accepted m v) registers
+Accepts = (m : Module) (v : ℕ) → AtRest m → v < 65536 → Each (Accepted m v) registers
 
 -- What every module has, whose fields are bytes and arrays: pins are eight, and the RAM has sixteen receive words, transmit words and command
 -- bytes.

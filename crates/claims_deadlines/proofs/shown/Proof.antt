@@ -5,8 +5,8 @@ use Rattle.claims_deadlines.proofs.Polling.{served, polled, polled-kept
 use Rattle.claims_deadlines.proofs.Ruled.{kept}
 use Rattle.claims_deadlines.proofs.Replaying.{in-time, replay-served}
 use Rattle.claims_deadlines.proofs.Reaching.{any-8, any-9, still-8, still-9, fair}
-use Rattle.claims_deadlines.proofs.deadlines.Statement.{statement}
-use Rattle.claims_deadlines.proofs.deadlines.Tie as tie
+use Rattle.claims_deadlines.proofs.shown.Statement.{statement}
+use Rattle.claims_deadlines.proofs.shown.Tie as tie
 
 returns : tie.Need-returns
 returns c = (
@@ -28,5 +28,5 @@ returns c = (
   },
 )
 
-pub deadlines-spec : {M : Type 1} → statement M
-deadlines-spec = tie.close (tie.spec returns)
+pub shown-spec : {M : Type 1} → statement M
+shown-spec = tie.close (tie.spec returns)

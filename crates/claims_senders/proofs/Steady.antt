@@ -1,30 +1,24 @@
--- The frames that a serial half takes are those that end in the samples of RXD. Assumes nothing.
-use mathlib.Core.Path.{_≡_, refl, ap, ap₂, sym, subst, _∙_}
+-- Accesses leave what a receiver hears by, and a clock moves it on by one sample or none; it stays on and awake. Assumes nothing.
+use mathlib.Core.Path.{_≡_, refl, ap, sym, subst, _∙_}
 use mathlib.Core.Bool.{Bool, true, false, cond, not, _&&_, _||_, true≢false, false≢true}
-use mathlib.Core.List.{List, [], _∷_, _++_}
-use Prim.Native.Nat.{ℕ, suc, _+_, _*_, _%_, _^_, _<_, min}
+use mathlib.Core.List.{[], _∷_}
+use Prim.Native.Nat.{ℕ, _+_, _*_, _%_, _^_, _<_}
 use native.Mathlib.Omega.{arith}
-use lib.Dec.{eqb, leb, lit<}
+use lib.Dec.{eqb, leb}
 use borrow.Author.Tests.{eqb-true, eqb-false, leb-false, ne-eqb}
 use Rattle.steps.specs.Bits.{merge}
 use Rattle.sci.specs.model.Control.{SCBR, TE, RE, M, bitsOf, sccr0Bits, sccr1Bits}
-use Rattle.sci.specs.model.Framer.{searching, ends, frameOf, fixed, framed}
-use Rattle.sci.specs.model.Receiver.{outcome, receiverAfter, received}
-use Rattle.sci.specs.model.Transmitter.{sent, runs}
-use Rattle.sci.specs.model.Serial.{active, due, sampled, clocked, sccr1Word, withSccr1, stopped, wroteSccr0, wroteSccr1, sccr0Guarded, sccr1Guarded, dataWritten}
-use Rattle.sci.specs.claims.History.{Step, reset, clock, reads, writesSccr0, writesSccr1, writesScdr, step, run}
-use Rattle.sci.specs.declared.framer.Framer.{Framer}
-use Rattle.sci.specs.declared.framer.Frame.{Frame}
+use Rattle.sci.specs.model.Framer.{ends, frameOf}
+use Rattle.sci.specs.model.Receiver.{outcome}
+use Rattle.sci.specs.model.Transmitter.{runs}
+use Rattle.sci.specs.model.Serial.{active, due, clocked, sccr1Word, withSccr1, stopped, wroteSccr0, wroteSccr1, sccr0Guarded, sccr1Guarded, dataWritten}
+use Rattle.sci.specs.claims.History.{Step, reset, clock, reads, writesSccr0, writesSccr1, writesScdr, step}
 use Rattle.sci.specs.declared.serial.Sci.{Sci}
 use Rattle.sci.proofs.Frames.{by-cond}
 use Rattle.sci.proofs.Settings.{same-bits}
 use Rattle.sci.proofs.Sampling.{re-active}
 use Rattle.sci.proofs.Reachable.{turned, clock-turned, re-put, settings-stand}
-use Rattle.claims_senders.specs.Fair.{SentFrame, line, FairFrames}
-use Rattle.claims_senders.specs.Heard.{Ended, endedIn, frames, asSent}
-use Rattle.claims_senders.specs.Clocks.{sampledAt}
-use Rattle.claims_senders.specs.Serial.{rxdIn, takenAt, takenIn, resets, On, StaysOn, Ready, switchedOn, SerialHears}
-use Rattle.claims_senders.proofs.Sampled.{clocks-heard}
+use Rattle.claims_senders.proofs.Receiving.{takenAt, resets, On}
 
 -- What a receiver hears by is as it was.
 pub record Same (s r : Sci) : Type 0 where
@@ -82,26 +76,6 @@ same-scdr true s v upper =
     record { framer = refl; last1 = refl; last2 = refl; last3 = refl; sccr0 = refl; prescaler = refl; bits = refl }
 same-scdr false s v upper = same s
 
--- What is heard of levels from a state on.
-abbrev heardFrom : Sci → ℕ → List Bool → List Frame
-heardFrom s k xs =
-    frames
-    (endedIn (bitsOf (M (s .sccr1))) k (s .receiver .last1) (s .receiver .last2) (s .receiver .last3) (s .receiver .framer)
-    (sampledAt (2 * SCBR (s .sccr0)) (s .prescaler) xs))
-
-same-heard : (s r : Sci) (k : ℕ) (xs : List Bool) → Same s r → heardFrom r k xs ≡ heardFrom s k xs
-same-heard s r k xs h =
-    go (r .receiver .framer) (r .receiver .last1) (r .receiver .last2) (r .receiver .last3) (r .sccr0) (r .prescaler) (bitsOf (M (r .sccr1)))
-    (h .framer) (h .last1) (h .last2) (h .last3) (h .sccr0) (h .prescaler) (h .bits)
-  where
-    go : (f : Framer) (a b c : Bool) (v p n : ℕ) → f ≡ s .receiver .framer → a ≡ s .receiver .last1 → b ≡ s .receiver .last2 →
-        c ≡ s .receiver .last3 → v ≡ s .sccr0 → p ≡ s .prescaler → n ≡ bitsOf (M (s .sccr1)) →
-        frames (endedIn n k a b c f (sampledAt (2 * SCBR v) p xs)) ≡ heardFrom s k xs
-    go f a b c v p n e₁ e₂ e₃ e₄ e₅ e₆ e₇ = rw (e₁, e₂, e₃, e₄, e₅, e₆, e₇)
-
-abbrev Hears : List Step → Type 0
-Hears es = (t : Sci) (k : ℕ) → On t → StaysOn es t → takenIn es t ≡ heardFrom t k (rxdIn es)
-
 pub still-on : (s r : Sci) → On s → Same s r → RE (r .sccr1) ≡ true → r .receiver .asleep ≡ false → On r
 still-on s r o h on awake =
     record {
@@ -112,11 +86,6 @@ still-on s r o h on awake =
           subst (λ (v : ℕ). v < 2 * SCBR (r .sccr0)) (sym (h .prescaler))
           (subst (λ (v : ℕ). s .prescaler < 2 * SCBR v) (sym (h .sccr0)) (o .phase));
     }
-
--- A step that brings no sample.
-quiet : (es : List Step) (s r : Sci) (k : ℕ) → Hears es → On s → Same s r → RE (r .sccr1) ≡ true → r .receiver .asleep ≡ false → StaysOn es r →
-    takenIn es r ≡ heardFrom s k (rxdIn es)
-quiet es s r k ih o h on awake stays = ih r k (still-on s r o h on awake) stays ∙ same-heard s r k (rxdIn es) h
 
 -- A clock.
 module _ (x : Bool) (s : Sci) (o : On s) where
@@ -158,44 +127,6 @@ module _ (x : Bool) (s : Sci) (o : On s) where
       let l : s .prescaler + 1 < 2 * SCBR (s .sccr0) = leb-false (2 * SCBR (s .sccr0)) (s .prescaler + 1) e in
       record { on = o .on; awake = o .awake; whole = o .whole; phase = omega arith }
 
-module _ (x : Bool) (es : List Step) (s : Sci) (k : ℕ) (ih : Hears es) (o : On s) where
-  -- A sample.
-  sample-heard : leb (2 * SCBR (s .sccr0)) (s .prescaler + 1) ≡ true → takenIn es (turned true true true s x) ≡ heardFrom (turned true true true s x) (suc k) (rxdIn es) →
-      cond (true && ends (s .receiver .framer)) (frameOf (s .receiver .framer) x ∷ []) [] ++ takenIn es (turned true true true s x)
-      ≡ heardFrom s k (x ∷ rxdIn es)
-  unfolding sampledAt endedIn frames received receiverAfter
-  sample-heard e h = rw e (go (ends (s .receiver .framer)) _ h)
-    where
-      go : (b : Bool) (l : List Ended) → takenIn es (turned true true true s x) ≡ frames l →
-          cond b (frameOf (s .receiver .framer) x ∷ []) [] ++ takenIn es (turned true true true s x)
-          ≡ frames (cond b (record { sample = suc k; frame = frameOf (s .receiver .framer) x } ∷ l) l)
-      go true l h = ap (λ (l : List Frame). frameOf (s .receiver .framer) x ∷ l) h
-      go false l h = h
-
-  -- A clock between samples.
-  count-heard : leb (2 * SCBR (s .sccr0)) (s .prescaler + 1) ≡ false →
-      takenIn es (turned true false true s x) ≡ heardFrom (turned true false true s x) k (rxdIn es) →
-      takenIn es (turned true false true s x) ≡ heardFrom s k (x ∷ rxdIn es)
-  unfolding sampledAt
-  count-heard e h =
-      let l : s .prescaler + 1 < 2 * SCBR (s .sccr0) = leb-false (2 * SCBR (s .sccr0)) (s .prescaler + 1) e in
-      let z : min 65535 (s .prescaler + 1) ≡ s .prescaler + 1 = omega arith in
-      rw e (h ∙ ap (λ (v : ℕ). frames (endedIn (bitsOf (M (s .sccr1))) k (s .receiver .last1) (s .receiver .last2) (s .receiver .last3) (s .receiver .framer) (sampledAt (2 * SCBR (s .sccr0)) v (rxdIn es)))) z)
-
-  clock-heard : (d : Bool) → leb (2 * SCBR (s .sccr0)) (s .prescaler + 1) ≡ d → RE (clocked s x .sccr1) ≡ true → clocked s x .receiver .asleep ≡ false →
-      StaysOn es (clocked s x) → takenAt (clock x) s ++ takenIn es (clocked s x) ≡ heardFrom s k (x ∷ rxdIn es)
-  clock-heard true e on awake stays =
-      let t : clocked s x ≡ turned true true true s x = turns x s o true (due-now x s o true e) in
-      ap₂ (λ (l : List Frame) (r : Sci). l ++ takenIn es r) (takes-it x s o true (due-now x s o true e)) t
-      ∙ sample-heard e
-      (ih (turned true true true s x) (suc k)
-      (sample-on x s o (subst (λ (r : Sci). RE (r .sccr1) ≡ true) t on) (subst (λ (r : Sci). r .receiver .asleep ≡ false) t awake))
-      (subst (StaysOn es) t stays))
-  clock-heard false e on awake stays =
-      let t : clocked s x ≡ turned true false true s x = turns x s o false (due-now x s o false e) in
-      ap₂ (λ (l : List Frame) (r : Sci). l ++ takenIn es r) (takes-it x s o false (due-now x s o false e)) t
-      ∙ count-heard e (ih (turned true false true s x) k (count-on x s o e) (subst (StaysOn es) t stays))
-
 pub same-write0 : (s : Sci) (v : ℕ) (upper lower : Bool) → On s → Same s (step (writesSccr0 v upper lower) s)
 unfolding step
 same-write0 s v upper lower o = by-cond (Same s) (sccr0Guarded s v upper lower) (λ _. same s) (λ g. same-sccr0 s v upper lower o g)
@@ -210,16 +141,6 @@ pub same-read : (s : Sci) (scsr scdr : Bool) → Same s (step (reads scsr scdr) 
 unfolding step
 same-read s scsr scdr =
     record { framer = refl; last1 = refl; last2 = refl; last3 = refl; sccr0 = refl; prescaler = refl; bits = refl }
-
-one-step : (e : Step) (es : List Step) → Hears es → Hears (e ∷ es)
-unfolding takenIn rxdIn StaysOn step
-one-step reset es ih s k o h = absurd (true≢false (h .0))
-one-step (clock x) es ih s k o h =
-    clock-heard x es s k ih o (leb (2 * SCBR (s .sccr0)) (s .prescaler + 1)) refl (h .1) (h .2) (h .3)
-one-step (reads scsr scdr) es ih s k o h = quiet es s _ k ih o (same-read s scsr scdr) (h .1) (h .2) (h .3)
-one-step (writesSccr0 v upper lower) es ih s k o h = quiet es s _ k ih o (same-write0 s v upper lower o) (h .1) (h .2) (h .3)
-one-step (writesSccr1 v upper lower) es ih s k o h = quiet es s _ k ih o (same-write1 s v upper lower o (h .1)) (h .1) (h .2) (h .3)
-one-step (writesScdr v upper lower) es ih s k o h = quiet es s _ k ih o (same-scdr lower s v upper) (h .1) (h .2) (h .3)
 
 clock-on : (x : Bool) (s : Sci) (o : On s) (d : Bool) → leb (2 * SCBR (s .sccr0)) (s .prescaler + 1) ≡ d → RE (clocked s x .sccr1) ≡ true →
     clocked s x .receiver .asleep ≡ false → On (clocked s x)
@@ -236,34 +157,3 @@ on-step (reads scsr scdr) s o n on awake = still-on s _ o (same-read s scsr scdr
 on-step (writesSccr0 v upper lower) s o n on awake = still-on s _ o (same-write0 s v upper lower o) on awake
 on-step (writesSccr1 v upper lower) s o n on awake = still-on s _ o (same-write1 s v upper lower o on) on awake
 on-step (writesScdr v upper lower) s o n on awake = still-on s _ o (same-scdr lower s v upper) on awake
-
-hears : (es : List Step) → Hears es
-unfolding takenIn rxdIn sampledAt endedIn frames
-hears [] s k o h = refl
-hears (e ∷ es) s k o h = one-step e es (hears es) s k o h
-
-taken : (s : Sci) (es : List Step) (fs : List SentFrame) → Ready s → StaysOn es s → rxdIn es ≡ line fs →
-    FairFrames (2 * SCBR (s .sccr0)) (bitsOf (M (s .sccr1))) fs → takenIn es s ≡ asSent fs
-taken s es fs r h e f =
-    hears es s 0 (r .on) h
-    ∙ go (s .receiver .framer) (s .receiver .last1) (s .receiver .last2) (s .receiver .last3) (rxdIn es) (r .searches) (r .one1) (r .one2) (r .one3) e
-    ∙ clocks-heard .words (2 * SCBR (s .sccr0)) (s .prescaler) (bitsOf (M (s .sccr1))) fs (r .on .phase) f
-  where
-    go : (g : Framer) (a b c : Bool) (xs : List Bool) → g ≡ searching → a ≡ true → b ≡ true → c ≡ true → xs ≡ line fs →
-        frames (endedIn (bitsOf (M (s .sccr1))) 0 a b c g (sampledAt (2 * SCBR (s .sccr0)) (s .prescaler) xs))
-        ≡ frames (endedIn (bitsOf (M (s .sccr1))) 0 true true true searching (sampledAt (2 * SCBR (s .sccr0)) (s .prescaler) (line fs)))
-    go g a b c xs e₁ e₂ e₃ e₄ e₅ = rw (e₁, e₂, e₃, e₄, e₅)
-
-reached : Ready switchedOn
-unfolding run step clocked sampled wroteSccr0 wroteSccr1 sccr0Guarded sccr1Guarded received receiverAfter outcome sent framed fixed
-reached =
-    record {
-      on = record { on = refl; awake = refl; whole = lit< tt; phase = lit< tt };
-      searches = refl;
-      one1 = refl;
-      one2 = refl;
-      one3 = refl;
-    }
-
-pub serial-hears : SerialHears
-serial-hears = record { reached = reached; taken = taken }

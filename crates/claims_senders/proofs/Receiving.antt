@@ -1,18 +1,15 @@
--- A serial half whose receiver is on and awake, while it is read and written: it takes the frames of a fair sender on RXD.
+-- A serial half whose receiver is on and awake, while it is read and written: what it hears on RXD, and the frames that it takes.
 use mathlib.Core.Bool.{Bool, true, false, cond, _&&_}
 use mathlib.Core.List.{List, [], _∷_, _++_}
 use mathlib.Core.Path.{_≡_}
 use Prim.Native.Nat.{_*_, _^_, _<_}
-use Rattle.sci.specs.model.Control.{SCBR, RE, M, bitsOf}
+use Rattle.sci.specs.model.Control.{SCBR, RE}
 use Rattle.sci.specs.model.Framer.{searching, frameOf}
 use Rattle.sci.specs.model.Receiver.{outcome}
 use Rattle.sci.specs.model.Transmitter.{sent}
-use Rattle.sci.specs.claims.History.{Step, reset, clock, reads, writesSccr0, writesSccr1, writesScdr, step, run, sampling}
-use Rattle.sci.specs.model.Serial.{resetSci}
+use Rattle.sci.specs.claims.History.{Step, reset, clock, reads, writesSccr0, writesSccr1, writesScdr, step, sampling}
 use Rattle.sci.specs.declared.framer.Frame.{Frame}
 use Rattle.sci.specs.declared.serial.Sci.{Sci}
-use Rattle.claims_senders.specs.Fair.{SentFrame, line, FairFrames}
-use Rattle.claims_senders.specs.Heard.{asSent}
 
 -- RXD's level, clock by clock.
 abbrev pub levelAt : Step → List Bool
@@ -58,11 +55,11 @@ pub record On (s : Sci) : Type 0 where
   pub whole : s .sccr0 < 2 ^ 13
   pub phase : s .prescaler < 2 * SCBR (s .sccr0)
 
--- No reset; RE is set and RWU clear after each step. All else is free: reads, SCDR, TE, the requests, writes that are refused.
-unfoldable pub StaysOn : List Step → Sci → Type 0
-StaysOn [] s = Unit {0}
-StaysOn (e ∷ es) s =
-    (resets e ≡ false) × (RE (step e s .sccr1) ≡ true) × (step e s .receiver .asleep ≡ false) × StaysOn es (step e s)
+-- No reset; on and not asleep, RE set and RWU clear, after each step. All else is free: reads, SCDR, TE, the requests, writes that are refused.
+unfoldable pub StaysAwake : List Step → Sci → Type 0
+StaysAwake [] s = Unit {0}
+StaysAwake (e ∷ es) s =
+    (resets e ≡ false) × (RE (step e s .sccr1) ≡ true) × (step e s .receiver .asleep ≡ false) × StaysAwake es (step e s)
 
 -- It searches after three ones.
 pub record Ready (s : Sci) : Type 0 where
@@ -71,15 +68,3 @@ pub record Ready (s : Sci) : Type 0 where
   pub one1 : s .receiver .last1 ≡ true
   pub one2 : s .receiver .last2 ≡ true
   pub one3 : s .receiver .last3 ≡ true
-
--- From reset on: SCBR 1, RE, and six clocks of ones, which are three samples.
-abbrev pub switchedOn : Sci
-switchedOn =
-    run
-    (writesSccr0 1 true true ∷ writesSccr1 4 true true ∷ clock true ∷ clock true ∷ clock true ∷ clock true ∷ clock true ∷ clock true ∷ [])
-    resetSci
-
-pub record SerialHears : Type 0 where
-  pub reached : Ready switchedOn
-  pub taken : (s : Sci) (es : List Step) (fs : List SentFrame) → Ready s → StaysOn es s → rxdIn es ≡ line fs →
-      FairFrames (2 * SCBR (s .sccr0)) (bitsOf (M (s .sccr1))) fs → takenIn es s ≡ asSent fs
