@@ -4,10 +4,10 @@ use mathlib.Core.Bool.{Bool}
 use mathlib.Core.List.{List, [], _∷_}
 use Prim.Native.Nat.{ℕ}
 use mir.Syntax.{w8, w16, w32}
-use denote.Enum.Claims as EL
-use denote.Struct.Claims as LL
+use denote.Enum.Laws as EL
+use denote.Struct.Laws as LL
 use Rattle.qsm.proofs.event.Answer as N
-use Rattle.qsm.proofs.event.Answer.Claims as N′
+use Rattle.qsm.proofs.event.Answer.Laws as N′
 use Rattle.host.proofs.Params.{Param, number, truth, Passed}
 use Rattle.host.proofs.Structs.{Structs, Kind}
 use Rattle.drivers.specs.State.{driverOf}
@@ -17,11 +17,11 @@ use Rattle.drivers.specs.declared.event.Event.{Event}
 use Rattle.drivers.specs.declared.event.Event.the-variants.{Reset, Hold, Claim, Release}
 use Rattle.drivers.specs.declared.event.Stepped.{Stepped}
 use Rattle.drivers.proofs.state.Shared as T
-use Rattle.drivers.proofs.state.Shared.Claims as T′
+use Rattle.drivers.proofs.state.Shared.Laws as T′
 use Rattle.drivers.proofs.event.Stepped as S
-use Rattle.drivers.proofs.event.Stepped.Claims as S′
+use Rattle.drivers.proofs.event.Stepped.Laws as S′
 use Rattle.drivers.proofs.event.Event as E
-use Rattle.drivers.proofs.event.Event.Claims as E′
+use Rattle.drivers.proofs.event.Event.Laws as E′
 
 -- The shared module, an answer, and both.
 abbrev pub shared : Structs
