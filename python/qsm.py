@@ -206,12 +206,12 @@ class Drivers(_Kept):
         return _answer(qsm_c.library.qsm_drivers_host_write(self._state, *_access(supervisor, width, offset), data))
 
     def read(self, spindle: bool, offset: int, width: int = 2, supervisor: bool = True) -> Answer:
-        """A driver's read: NOT_YOURS that it may not make."""
+        """A driver's read: NOT_YOURS where it may not make it."""
         who = truth("spindle", spindle)
         return _answer(qsm_c.library.qsm_drivers_read(self._state, who, *_access(supervisor, width, offset)))
 
     def write(self, spindle: bool, offset: int, value: int, width: int = 2, supervisor: bool = True) -> Answer:
-        """A driver's write: NOT_YOURS that it may not make."""
+        """A driver's write: NOT_YOURS where it may not make it."""
         who, data = truth("spindle", spindle), bits("value", value, 32)
         return _answer(qsm_c.library.qsm_drivers_write(self._state, who, *_access(supervisor, width, offset), data))
 

@@ -3,7 +3,7 @@ use mathlib.Core.Bool.{_||_}
 use Prim.Native.Nat.{ℕ, _-_, _/_, min}
 use lib.Dec.{eqb}
 use Rattle.files.specs.Pieces.{counted}
-use Rattle.tool_compare.specs.Kind.{strideOf}
+use Rattle.answers.specs.Answer.{strideOf}
 use Rattle.tool_compare.specs.declared.Compared.{Compared}
 use Rattle.compare.specs.declared.tally.Tally.{Tally}
 

@@ -9,6 +9,9 @@ use crate::tally::answers_in;
 use crate::tally::answers_of;
 use crate::tally::nothing;
 use crate::tally::tallied;
+use answers::CLOCKED;
+use answers::CLOCKED_LENGTH;
+use answers::PLAIN_LENGTH;
 use files::pieces::Filled;
 use files::pieces::counted;
 use files::pieces::fill;
@@ -70,7 +73,11 @@ fn byte_at(log: &[u8], at: usize) -> u8 {
 // Where answer k of a piece begins.
 fn place_of(kind: u8, k: usize) -> usize {
     let n = least(k, 65520);
-    if kind == 17 { n * 18 } else { n * 10 }
+    if kind == CLOCKED {
+        n * CLOCKED_LENGTH
+    } else {
+        n * PLAIN_LENGTH
+    }
 }
 
 // The first answer of a piece that does not begin with the kind, behind so many bytes of its log.

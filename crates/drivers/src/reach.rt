@@ -15,6 +15,8 @@ use qsm::map::Place;
 use qsm::map::QueueWord;
 use qsm::map::decode;
 use qsm::state::Module;
+use qspi::fields::spe;
+use qspi::fields::wren;
 use qspi::registers::Registers;
 use steps::merge;
 
@@ -61,22 +63,21 @@ fn fit(split: u8, who: Driver, spcr2: u16) -> bool
     let first = spcr2 % 16;
     let last = spcr2 / 256 % 16;
     ((owns(split, who, first) & owns(split, who, last)) & (first <= last))
-        & (!(spcr2 / 16384 % 2 == 1) | (spcr2 / 8192 % 2 == 1))
+        & (!wren(spcr2) | (spcr2 / 8192 % 2 == 1))
 }
 
 fn writes_spcr1(split: u8, who: Driver, regs: Registers, v: u16, upper: bool, lower: bool) -> bool
     ensures { λ r. ⌜ r ≡ writesSpcr1 split who regs v upper lower ⌝ }
 {
     let after = merge(regs.spcr1, v, upper, lower);
-    (after % 32768 == regs.spcr1 % 32768)
-        & (!(upper & (v / 32768 % 2 == 1)) | fit(split, who, regs.spcr2))
+    (after % 32768 == regs.spcr1 % 32768) & (!(upper & spe(v)) | fit(split, who, regs.spcr2))
 }
 
 fn writes_spcr2(split: u8, who: Driver, regs: Registers, v: u16, upper: bool, lower: bool) -> bool
     ensures { λ r. ⌜ r ≡ writesSpcr2 split who regs v upper lower ⌝ }
 {
     let after = merge(regs.spcr2, v, upper, lower);
-    fit(split, who, after) & (!(regs.spcr1 / 32768 % 2 == 1) | (upper & lower))
+    fit(split, who, after) & (!spe(regs.spcr1) | (upper & lower))
 }
 
 fn writes_queue(

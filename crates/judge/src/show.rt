@@ -1,12 +1,13 @@
 // The first wrong answer as people read it: its number and field, its record, what the chip gives and what the log says.
+use answers::Field;
 use files::output::write_first;
 use files::pieces::least;
 use libc::STDOUT_FILENO;
 use qsm::state::Module;
-use text::difference::Field;
 use text::line::Line;
 use text::log::logged_at;
 use text::record::record_line;
+use trace::ANSWER_LENGTH;
 use trace::Parsed;
 
 // Whether it could be written.
@@ -25,9 +26,9 @@ fn wrong_line(n: u64, f: Field) -> Line {
         .put(10)
 }
 
-// Up to 18 bytes in hexadecimal.
+// Up to the bytes of an answer in hexadecimal.
 fn hex(line: Line, bytes: &[u8]) -> Line {
-    let n = least(18, bytes.len());
+    let n = least(ANSWER_LENGTH, bytes.len());
     let mut l = line;
     let mut i = 0;
     while i < n {
@@ -71,7 +72,11 @@ pub fn show(n: u64, f: Field, rest: &[u8], chip: &[u8], written: usize, log: &[u
 
 // The bytes of k answers, or all of so many.
 fn bytes_of(k: usize, all: usize) -> usize {
-    if k <= all / 18 { k * 18 } else { all }
+    if k <= all / ANSWER_LENGTH {
+        k * ANSWER_LENGTH
+    } else {
+        all
+    }
 }
 
 // Answer n, which is answer k of these pieces, played from m on: beside the k answers before it, and then with room for one.
@@ -80,9 +85,9 @@ pub fn show_wrong<'a>(m: Module, t: &'a [u8], l: &'a [u8], n: u64, k: usize, f: 
     let w = tool_judge::walk(m, t, &l[0..at], false);
     let from = least(w.read, t.len());
     let before = w.state;
-    let room = [0u8; 18];
+    let room = [0u8; ANSWER_LENGTH];
     let r = tool_judge::run(before, &t[from..], &room, false);
     let ours = r.ours;
-    let written = bytes_of(r.walked.records, 18);
+    let written = bytes_of(r.walked.records, ANSWER_LENGTH);
     show(n, f, &t[from..], &ours, written, &l[at..])
 }

@@ -10,8 +10,8 @@ use crate::run::start;
 use crate::run::with_log;
 use crate::run::with_trace;
 use crate::show::show;
+use answers::Field;
 use files::pieces::least;
-use text::difference::Field;
 
 fn more_trace(fd: i32, buf: &mut [u8], run: Run) -> Turned {
     let p = run.trace;

@@ -11,11 +11,12 @@ use lib.ListN.{length}
 use borrow.Author.Tests.{ltb-true, eqb-true}
 use Rattle.qsm.specs.declared.event.Event.{Event}
 use Rattle.qsm.specs.declared.event.Answer.{Answer}
-use Rattle.trace.specs.Trace.{byteAt, whole, parsed, answerKind}
+use Rattle.answers.specs.Answer.{clocked, lengthOf}
+use Rattle.trace.specs.Trace.{byteAt, whole, parsed}
 use Rattle.trace.specs.declared.Parsed.{Parsed}
 use Rattle.trace.specs.declared.Parsed.the-variants.{Record, Unknown, Cut}
 use Rattle.text.specs.Answer.{unnamed}
-use Rattle.text.specs.Log.{sizeOf, loggedAt, foreignKind, otherKind, entry}
+use Rattle.text.specs.Log.{loggedAt, foreignKind, otherKind, entry}
 use Rattle.text.specs.declared.log.Entry.{Entry}
 use Rattle.text.specs.declared.log.Entry.the-variants as log
 use Rattle.show.specs.Run.{OfAnswer, OfRecord, OfBytes}
@@ -46,8 +47,8 @@ short-answer kind t =
     by-test (ShortAnswer t) (eqb (length t) 0) _ _ (λ h. omega (arith, eqb-true (length t) 0 h))
     (by-test (ShortAnswer t) (foreignKind (byteAt t 0)) _ _ (λ _. tt)
     (by-test (ShortAnswer t) (otherKind kind (byteAt t 0)) _ _ (λ _. tt)
-    (by-test (ShortAnswer t) (ltb (length t) (sizeOf (byteAt t 0))) _ _
-    (λ h. omega (arith, ltb-true (length t) (sizeOf (byteAt t 0)) h, at-most (eqb (byteAt t 0) answerKind)))
+    (by-test (ShortAnswer t) (ltb (length t) (lengthOf (byteAt t 0))) _ _
+    (λ h. omega (arith, ltb-true (length t) (lengthOf (byteAt t 0)) h, at-most (eqb (byteAt t 0) clocked)))
     (by-test (ShortAnswer t) (unnamed (a .refusal)) _ _ (λ _. tt)
     (by-test (ShortAnswer t) (not (eqb (bitAnd (a .levels) (a .mask)) (a .levels))) _ _ (λ _. tt) tt)))))
 

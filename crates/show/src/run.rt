@@ -6,6 +6,7 @@ use crate::item::show_bytes;
 use files::pieces::counted;
 use files::pieces::fill;
 use text::message::Fault;
+use trace::ANSWER_LENGTH;
 
 pub enum Next {
     More,
@@ -19,7 +20,7 @@ pub enum Next {
 // its place, and the bytes read.
 pub struct Run {
     pub kind: u8,
-    pub bytes: [u8; 18],
+    pub bytes: [u8; ANSWER_LENGTH],
     pub have: usize,
     pub number: u64,
     pub place: u64,
@@ -37,7 +38,7 @@ impl Run {
     {
         Run {
             kind: 0,
-            bytes: [0u8; 18],
+            bytes: [0u8; ANSWER_LENGTH],
             have: 0,
             number: 0,
             place: 0,

@@ -14,8 +14,8 @@ use Rattle.text.specs.Difference.{fieldName, kindText, refusalText, pins
 use Rattle.text.specs.Verdict.{equalLine, more, differLine, why, refusedLine, expected, otherLine}
 use Rattle.text.specs.Noise.{noiseLine, tallyLine, lineNoise}
 use Rattle.text.specs.Account.{accountLine}
-use Rattle.text.specs.declared.difference.Field.{Field}
-use Rattle.text.specs.declared.difference.Field.the-variants.{Kind, Refusal, Value, Levels, Mask, Level, Vector, Clock}
+use Rattle.answers.specs.declared.Field.{Field}
+use Rattle.answers.specs.declared.Field.the-variants.{Kind, Refusal, Value, Levels, Mask, Level, Vector, Clock}
 use Rattle.text.specs.declared.log.Logged.{Logged}
 use Rattle.text.proofs.Lengths.{either, decimal-length, refusal-length, pins-length}
 

@@ -25,7 +25,8 @@ use Rattle.text.specs.Digits.{ascii, decimal}
 use Rattle.text.specs.Line.{room}
 use Rattle.text.specs.Answer.{refusal, pin, eachPin, pins, request, fields, clock, answerLine}
 use Rattle.text.specs.Register.{partOf, pair, own, serial, command, queue, register, registers}
-use Rattle.trace.specs.Trace.{answerKind, longHoldKind}
+use Rattle.answers.specs.Answer.{clocked}
+use Rattle.trace.specs.Trace.{longHoldKind}
 use Rattle.text.specs.Record.{place, hold, access, event, recordLine}
 use Rattle.text.specs.declared.log.Logged.{Logged}
 use Rattle.text.specs.declared.register.Part.{Part}
@@ -92,7 +93,7 @@ fields-length a =
 
 clock-length : (kind clocks : ℕ) → length (clock kind clocks) ≤ 28
 unfolding clock
-clock-length kind clocks = either (eqb kind answerKind) _ _ 28 (simp length-append (omega (arith, decimal-length 20 clocks))) (omega arith)
+clock-length kind clocks = either (eqb kind clocked) _ _ 28 (simp length-append (omega (arith, decimal-length 20 clocks))) (omega arith)
 
 pub answer-fits : (n : ℕ) (l : Logged) → length (answerLine n l) ≤ room
 answer-fits n l =

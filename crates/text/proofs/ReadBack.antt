@@ -9,20 +9,21 @@ use native.Mathlib.Omega.{arith}
 use lib.Dec.{eqb}
 use lib.ListN.{length, length-append}
 use borrow.Author.Tests.{le-ltb, eq-eqb, ne-eqb}
-use Rattle.trace.specs.Trace.{answerKind, answerBody, answerBytes, clockBytes, longAt}
+use Rattle.answers.specs.Answer.{plain, clocked, lengthOf, clockBytes}
+use Rattle.trace.specs.Trace.{answerBody, answerBytes, longAt}
 use Rattle.trace.proofs.LongHolds.{four-bytes}
-use Rattle.text.specs.Log.{plainKind, sizeOf, wide, otherKind}
+use Rattle.text.specs.Log.{wide, otherKind}
 use Rattle.text.specs.Claims.{Behind, BytesGiveBack, PlainGiveBack, KindsApart}
 
 at-least : (t : Bool) → 10 ≤ cond t 18 10
 at-least true = omega arith
 at-least false = omega arith
 
-pub size-least : (kind : ℕ) → 10 ≤ sizeOf kind
-size-least kind = at-least (eqb kind answerKind)
+pub size-least : (kind : ℕ) → 10 ≤ lengthOf kind
+size-least kind = at-least (eqb kind clocked)
 
-pub size-clocked : {kind : ℕ} → kind ≡ answerKind → sizeOf kind ≡ 18
-size-clocked {kind} e = rw (eq-eqb kind answerKind e)
+pub size-clocked : {kind : ℕ} → kind ≡ clocked → lengthOf kind ≡ 18
+size-clocked {kind} e = rw (eq-eqb kind clocked e)
 
 -- Behind nothing, or answers of its kind, an answer is of no other.
 not-both : (p q : Bool) → q ≡ true → not p && not q ≡ false
@@ -68,7 +69,7 @@ bytes-give-back before a t behind given =
     let long : 18 ≤ length (answerBytes a ++ t) = simp length-append (omega arith) in
     rw (
       there (answerBytes a ++ t) (omega arith),
-      not-other answerKind before behind,
+      not-other clocked before behind,
       le-ltb (length (answerBytes a ++ t)) 18 long,
       given .refusal,
       eq-eqb _ _ (given .driven),
@@ -78,11 +79,11 @@ bytes-give-back before a t behind given =
 
 pub plain-give-back : PlainGiveBack
 plain-give-back before a t behind given none =
-    let long : 10 ≤ length ((plainKind ∷ answerBody a) ++ t) = simp length-append (omega arith) in
+    let long : 10 ≤ length ((plain ∷ answerBody a) ++ t) = simp length-append (omega arith) in
     rw (
-      there ((plainKind ∷ answerBody a) ++ t) (omega arith),
-      not-other plainKind before behind,
-      le-ltb (length ((plainKind ∷ answerBody a) ++ t)) 10 long,
+      there ((plain ∷ answerBody a) ++ t) (omega arith),
+      not-other plain before behind,
+      le-ltb (length ((plain ∷ answerBody a) ++ t)) 10 long,
       given .refusal,
       eq-eqb _ _ (given .driven),
       four-bytes (a .value) (given .value),
@@ -90,4 +91,4 @@ plain-give-back before a t behind given none =
     )
 
 pub kinds-apart : KindsApart
-kinds-apart a t = (rw (there (answerBytes a ++ t) (omega arith)), rw (there ((plainKind ∷ answerBody a) ++ t) (omega arith)))
+kinds-apart a t = (rw (there (answerBytes a ++ t) (omega arith)), rw (there ((plain ∷ answerBody a) ++ t) (omega arith)))

@@ -5,7 +5,7 @@ use Prim.Native.Nat.{ℕ}
 use lib.Dec.{eqb, ltb}
 use Rattle.steps.specs.Bits.{bit}
 use Rattle.qsm.specs.declared.event.Answer.{Answer}
-use Rattle.trace.specs.Trace.{answerKind}
+use Rattle.answers.specs.Answer.{clocked}
 use Rattle.text.specs.Digits.{ascii, decimal, hexByte, hexLong, number}
 use Rattle.text.specs.declared.log.Logged.{Logged}
 
@@ -60,7 +60,7 @@ fields a =
     ++ request (a .level) (a .vector)
 
 unfoldable pub clock : ℕ → ℕ → List ℕ
-clock kind clocks = cond (eqb kind answerKind) (ascii ", clock " ++ decimal 20 clocks) []
+clock kind clocks = cond (eqb kind clocked) (ascii ", clock " ++ decimal 20 clocks) []
 
 -- The line of answer n, with the byte that ends a line.
 abbrev pub answerLine : ℕ → Logged → List ℕ

@@ -6,11 +6,12 @@ use mathlib.Core.List.{List, [], _∷_, _++_}
 use Prim.Native.Nat.{ℕ, _+_, _-_, _*_, _≤_, _<_, _^_}
 use lib.Bits.{bitAnd}
 use Rattle.qsm.specs.declared.event.Answer.{Answer}
-use Rattle.trace.specs.Trace.{answerKind, answerBody, answerBytes}
+use Rattle.answers.specs.Answer.{plain, clocked}
+use Rattle.trace.specs.Trace.{answerBody, answerBytes}
 use Rattle.text.specs.Digits.{decimal}
 use Rattle.text.specs.Number.{numberOf}
 use Rattle.text.specs.Answer.{unnamed}
-use Rattle.text.specs.Log.{plainKind, entry}
+use Rattle.text.specs.Log.{entry}
 use Rattle.text.specs.declared.number.Number.the-variants.{Is}
 use Rattle.text.specs.declared.log.Entry.the-variants.{Whole, OtherKind}
 
@@ -41,20 +42,20 @@ Behind kind before = (before ≡ 0) ⊎ (before ≡ kind)
 -- What the trace writes is read back, with its clock.
 abbrev pub BytesGiveBack : Type 0
 BytesGiveBack =
-    (before : ℕ) (a : Answer) (t : List ℕ) → Behind answerKind before → Given a →
-    entry before (answerBytes a ++ t) ≡ Whole (record { kind = answerKind; answer = a })
+    (before : ℕ) (a : Answer) (t : List ℕ) → Behind clocked before → Given a →
+    entry before (answerBytes a ++ t) ≡ Whole (record { kind = clocked; answer = a })
 
 -- So is an answer of kind 10, without a clock.
 abbrev pub PlainGiveBack : Type 0
 PlainGiveBack =
-    (before : ℕ) (a : Answer) (t : List ℕ) → Behind plainKind before → Given a → a .clock ≡ 0 →
-    entry before ((plainKind ∷ answerBody a) ++ t) ≡ Whole (record { kind = plainKind; answer = a })
+    (before : ℕ) (a : Answer) (t : List ℕ) → Behind plain before → Given a → a .clock ≡ 0 →
+    entry before ((plain ∷ answerBody a) ++ t) ≡ Whole (record { kind = plain; answer = a })
 
 -- Neither is read behind answers of the other kind.
 abbrev pub KindsApart : Type 0
 KindsApart =
     (a : Answer) (t : List ℕ) →
-    (entry plainKind (answerBytes a ++ t) ≡ OtherKind) × (entry answerKind ((plainKind ∷ answerBody a) ++ t) ≡ OtherKind)
+    (entry plain (answerBytes a ++ t) ≡ OtherKind) × (entry clocked ((plain ∷ answerBody a) ++ t) ≡ OtherKind)
 
 pub record Claims : Type 0 where
   pub digits : DigitsGiveBack

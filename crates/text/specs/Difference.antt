@@ -8,8 +8,8 @@ use Rattle.qsm.specs.declared.event.Answer.{Answer}
 use Rattle.text.specs.Digits.{ascii, decimal, hexByte, hexLong, number}
 use Rattle.text.specs.Answer.{unnamed, refusal, pins}
 use Rattle.text.specs.Log.{foreignKind}
-use Rattle.text.specs.declared.difference.Field.{Field}
-use Rattle.text.specs.declared.difference.Field.the-variants.{Kind, Refusal, Value, Levels, Mask, Level, Vector, Clock}
+use Rattle.answers.specs.declared.Field.{Field}
+use Rattle.answers.specs.declared.Field.the-variants.{Kind, Refusal, Value, Levels, Mask, Level, Vector, Clock}
 use Rattle.text.specs.declared.log.Logged.{Logged}
 
 abbrev pub fieldName : Field → List ℕ

@@ -6,6 +6,7 @@ ghost use Rattle.text.specs.Line.{puts, Shows};
 ghost use Rattle.text.specs.Answer.{unnamed, refusal, pin, eachPin, pins, request, fields, clock, answerLine};
 use crate::line::Line;
 use crate::log::Logged;
+use answers::CLOCKED;
 use qsm::event::Answer;
 
 // A refusal that no answer has: an access is refused 1 to 4, a driver's event 9 too (02, L11).
@@ -98,7 +99,7 @@ impl Line {
     fn clock(self, kind: u8, clocks: u64) -> Line
         ensures { λ r. ⌜ r ≡ puts self (clock kind clocks) ⌝ }
     {
-        if kind == 17 {
+        if kind == CLOCKED {
             self.write(b", clock ").decimal(20, clocks)
         } else {
             self

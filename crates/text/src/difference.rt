@@ -6,19 +6,8 @@ use crate::answer::unnamed;
 use crate::line::Line;
 use crate::log::Logged;
 use crate::log::foreign_kind;
+use answers::Field;
 use qsm::event::Answer;
-
-// The fields of an answer, in order.
-pub enum Field {
-    Kind,
-    Refusal,
-    Value,
-    Levels,
-    Mask,
-    Level,
-    Vector,
-    Clock,
-}
 
 impl Line {
     // Ruled out: the name of another field; one name for two.

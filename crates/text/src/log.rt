@@ -2,10 +2,26 @@
 ghost use mathlib.Core.Path.{_≡_};
 ghost use Prim.Native.Nat.{_≤_, _+_};
 ghost use lib.ListN.{length};
+ghost use Rattle.answers.specs.Answer.{lengthOf};
 ghost use Rattle.trace.specs.Trace.{wordAt, long, longAt};
-ghost use Rattle.text.specs.Log.{sizeOf, wide, clockAt, nothing, loggedAt, tested, foreignKind, otherKind, entry};
+ghost use Rattle.text.specs.Log.{wide, clockAt, nothing, loggedAt, tested, foreignKind, otherKind, entry};
 use crate::answer::unnamed;
+use answers::CLOCK;
+use answers::CLOCKED;
+use answers::KIND;
+use answers::LEVEL;
+use answers::LEVELS;
+use answers::MASK;
+use answers::PLAIN_LENGTH;
+use answers::REFUSAL;
+use answers::VALUE;
+use answers::VECTOR;
+use answers::known_kind;
+use answers::length_of;
 use qsm::event::Answer;
+
+// The lower four bytes of the clock.
+const CLOCK_LOW: usize = CLOCK + 4;
 
 // An answer, or what is wrong: its first byte is neither 10 nor 11, or not that of the answers before it, its refusal is none that an answer has, a pin that
 // is not driven has a level, or the end of the log cuts it.
@@ -22,14 +38,6 @@ pub enum Entry {
 pub struct Logged {
     pub kind: u8,
     pub answer: Answer,
-}
-
-// The bytes of an answer of a kind.
-// Ruled out: ten for both; eighteen for both.
-pub fn size_of(kind: u8) -> usize
-    ensures { λ r. ⌜ r ≡ sizeOf kind ⌝ }
-{
-    if kind == 17 { 18 } else { 10 }
 }
 
 fn word_at(rest: &[u8], at: usize) -> u16
@@ -59,11 +67,11 @@ fn wide(high: u32, low: u32) -> u64
 }
 
 fn clock_at(kind: u8, rest: &[u8]) -> u64
-    requires { ⌜ sizeOf kind ≤ length (now rest) ⌝ }
+    requires { ⌜ lengthOf kind ≤ length (now rest) ⌝ }
     ensures { λ r. ⌜ r ≡ clockAt kind (now (rest .entry)) ⌝ }
 {
-    if kind == 17 {
-        return wide(long_at(rest, 10), long_at(rest, 14));
+    if kind == CLOCKED {
+        return wide(long_at(rest, CLOCK), long_at(rest, CLOCK_LOW));
     }
     0
 }
@@ -90,20 +98,20 @@ fn nothing() -> Logged
 pub fn logged_at(rest: &[u8]) -> Logged
     ensures { λ r. ⌜ r ≡ loggedAt (now (rest .entry)) ⌝ }
 {
-    if rest.len() < 10 {
+    if rest.len() < PLAIN_LENGTH {
         return nothing();
     }
-    let kind = rest[0];
-    if rest.len() < size_of(kind) {
+    let kind = rest[KIND];
+    if rest.len() < length_of(kind) {
         return nothing();
     }
     let answer = Answer {
-        refusal: rest[1],
-        value: long_at(rest, 2),
-        levels: rest[6],
-        mask: rest[7],
-        level: rest[8],
-        vector: rest[9],
+        refusal: rest[REFUSAL],
+        value: long_at(rest, VALUE),
+        levels: rest[LEVELS],
+        mask: rest[MASK],
+        level: rest[LEVEL],
+        vector: rest[VECTOR],
         clock: clock_at(kind, rest),
     };
     Logged { kind, answer }
@@ -127,7 +135,7 @@ fn tested(l: Logged) -> Entry
 pub fn foreign_kind(first: u8) -> bool
     ensures { λ r. ⌜ r ≡ foreignKind first ⌝ }
 {
-    !((first == 16) | (first == 17))
+    !known_kind(first)
 }
 
 fn other_kind(kind: u8, first: u8) -> bool
@@ -144,14 +152,14 @@ pub fn parse_answer(kind: u8, rest: &[u8]) -> Entry
     if rest.len() == 0 {
         return Entry::Cut;
     }
-    let first = rest[0];
+    let first = rest[KIND];
     if foreign_kind(first) {
         return Entry::NoAnswer;
     }
     if other_kind(kind, first) {
         return Entry::OtherKind;
     }
-    if rest.len() < size_of(first) {
+    if rest.len() < length_of(first) {
         return Entry::Cut;
     }
     tested(logged_at(rest))

@@ -8,7 +8,8 @@ use lib.Dec.{ltb}
 use lib.ListN.{length, take, drop}
 use lib.Seq.{take-at, drop-at}
 use borrow.Author.Tests.{eqb-true, ltb-false, not-false}
-use Rattle.tool_compare.specs.Answer.{stride, sumOf}
+use Rattle.answers.specs.Answer.{stride}
+use Rattle.tool_compare.specs.Answer.{sumOf}
 use Rattle.tool_compare.specs.Compare.{answer, differing, listed, common, cut, reported, compared}
 use Rattle.tool_compare.specs.Laws.{firsts, seconds, numbers, sums}
 use Rattle.tool_compare.proofs.Listing.{listed-length}

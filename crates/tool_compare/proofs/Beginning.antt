@@ -9,8 +9,8 @@ use native.Mathlib.Omega.{arith}
 use lib.Dec.{eqb, ltb}
 use lib.ListN.{length, getD, take}
 use borrow.Author.Tests.{lt-ltb, le-ltb}
-use Rattle.tool_compare.specs.Answer.{fields, stride}
-use Rattle.tool_compare.specs.Kind.{plain, clocked, fieldCount, strideOf, begun, begins, firstOther}
+use Rattle.answers.specs.Answer.{plain, clocked, fields, fieldCount, stride, strideOf}
+use Rattle.tool_compare.specs.Kind.{begun, begins, firstOther}
 
 by-kind : (t : Bool) → (10 ≤ stride (take (cond t 8 7) fields)) × (stride (take (cond t 8 7) fields) ≤ 18)
 by-kind true = (omega arith, omega arith)

@@ -8,8 +8,8 @@ use native.Mathlib.Nat.{div-add-mod', mul-mod-left}
 use native.Mathlib.Omega.{arith}
 use lib.Dec.{ltb}
 use lib.ListN.{length}
-use Rattle.tool_compare.specs.Answer.{stride}
-use Rattle.tool_compare.specs.Kind.{fieldsOf, strideOf, mixed}
+use Rattle.answers.specs.Answer.{fieldsOf, stride, strideOf}
+use Rattle.tool_compare.specs.Kind.{mixed}
 use Rattle.tool_compare.specs.Compare.{cut, refused, reported, compared, comparedAs}
 use Rattle.tool_compare.specs.Laws.{Leaves, TellsAll, LeavesTheRest}
 use Rattle.tool_compare.specs.Pieces.{InPieces, OtherPiece, CutPiece, MoreOfOne, MoreOfCut}

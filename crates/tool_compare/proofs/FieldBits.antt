@@ -7,7 +7,8 @@ use native.Mathlib.Nat.{div-div-eq-div-mul, pow-succ', add-mul}
 use native.Mathlib.Omega.{arith}
 use lib.ListN.{length, take, drop}
 use lib.Seq.{drop-drop}
-use Rattle.tool_compare.specs.Answer.{stride, same, weighed, sumOf}
+use Rattle.answers.specs.Answer.{stride}
+use Rattle.tool_compare.specs.Answer.{same, weighed, sumOf}
 use Rattle.tool_compare.specs.Laws.{field}
 use Rattle.tool_compare.proofs.Alike.{same-equal, same-other}
 

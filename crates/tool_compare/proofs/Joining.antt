@@ -7,7 +7,7 @@ use native.Mathlib.Nat.{mul-div-cancel, min-eq-left, div-add-mod', div-mul-le-se
 use native.Mathlib.Omega.{arith}
 use lib.Dec.{ltb}
 use lib.ListN.{length, getD, length-append, length-map}
-use Rattle.tool_compare.specs.Answer.{stride}
+use Rattle.answers.specs.Answer.{stride}
 use Rattle.tool_compare.specs.Compare.{common, cut, reported, compared}
 use Rattle.tool_compare.specs.Pieces.{Joins, Longer}
 use Rattle.tool_compare.proofs.Accepted.{others, Accepted, accepted, sumsOf, numbers-are, sums-are}

@@ -7,7 +7,8 @@ use native.Mathlib.Numerals.{add-one}
 use native.Mathlib.Omega.{arith}
 use lib.ListN.{length, set, take, drop, length-append, length-drop}
 use lib.Seq.{sets-eq, take-at, drop-at, drop-drop}
-use Rattle.tool_compare.specs.Answer.{stride, same, sumOf}
+use Rattle.answers.specs.Answer.{stride}
+use Rattle.tool_compare.specs.Answer.{same, sumOf}
 use Rattle.tool_compare.specs.Compare.{answer, differing, listed}
 use Rattle.tool_compare.proofs.Differing.{Passing, passes, passing-starts, part, fewer, skipped, counted, counted-length}
 

@@ -10,7 +10,8 @@ use lib.Dec.{ltb}
 use lib.ListN.{length, length-append, List·getD-append}
 use lib.Seq.{getD-append-add}
 use borrow.Author.Tests.{le-ltb, ltb-true, ltb-false}
-use Rattle.tool_compare.specs.Kind.{strideOf, begun, begins, firstOther, mixed}
+use Rattle.answers.specs.Answer.{strideOf}
+use Rattle.tool_compare.specs.Kind.{begun, begins, firstOther, mixed}
 use Rattle.tool_compare.proofs.Found.{below-or-last}
 use Rattle.tool_compare.proofs.Beginning.{stride-positive, byte-there, is-begun, step}
 

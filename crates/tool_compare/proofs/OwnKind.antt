@@ -9,7 +9,8 @@ use native.Mathlib.Omega.{arith}
 use lib.Dec.{eqb}
 use lib.ListN.{length, getD}
 use borrow.Author.Tests.{eq-eqb, eqb-true, eqb-false}
-use Rattle.tool_compare.specs.Kind.{plain, clocked, fieldsOf, strideOf, kindOf, mixed}
+use Rattle.answers.specs.Answer.{plain, clocked, fieldsOf, strideOf}
+use Rattle.tool_compare.specs.Kind.{kindOf, mixed}
 use Rattle.tool_compare.specs.Compare.{refused, compared, comparedAs}
 use Rattle.tool_compare.specs.Laws.{Alike, Exchanged, OneKind, FiveExactly}
 use Rattle.tool_compare.proofs.Alike.{both}

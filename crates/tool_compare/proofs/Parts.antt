@@ -9,7 +9,8 @@ use lib.Dec.{ltb}
 use lib.ListN.{length, getD, take, drop, length-append, length-drop, drop-of-length-le}
 use lib.Seq.{take-append-le, drop-append-le, drop-append-add}
 use borrow.Author.Tests.{lt-ltb, le-ltb, ltb-true, ltb-false}
-use Rattle.tool_compare.specs.Answer.{stride, same}
+use Rattle.answers.specs.Answer.{stride}
+use Rattle.tool_compare.specs.Answer.{same}
 use Rattle.tool_compare.specs.Compare.{answer, differing, common, cut, surplusOf}
 use Rattle.tool_compare.proofs.Accepted.{sumsOf}
 

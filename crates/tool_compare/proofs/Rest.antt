@@ -8,7 +8,8 @@ use native.Mathlib.Omega.{arith}
 use lib.Dec.{ltb}
 use lib.ListN.{length, take, drop, length-append, length-drop}
 use borrow.Author.Tests.{le-ltb, ltb-true, ltb-false}
-use Rattle.tool_compare.specs.Answer.{stride, weighed}
+use Rattle.answers.specs.Answer.{stride}
+use Rattle.tool_compare.specs.Answer.{weighed}
 use Rattle.tool_compare.specs.Compare.{answer, differing, listed, common, cut, surplusOf, refused, reported, compared}
 use Rattle.tool_compare.specs.Laws.{Leaves, Alike}
 use Rattle.tool_compare.proofs.Alike.{same-sym}

@@ -8,7 +8,8 @@ use native.Mathlib.Nat.{add-assoc, add-zero, zero-add, pow-suc, pow-le-pow-right
 use native.Mathlib.Numerals.{add-one}
 use lib.ListN.{length, getD, take, drop, length-take, drop-of-length-le}
 use lib.Seq.{drop-cons, drop-drop, getD-take}
-use Rattle.tool_compare.specs.Answer.{fields, stride, same, weighed, sumOf}
+use Rattle.answers.specs.Answer.{fields, stride}
+use Rattle.tool_compare.specs.Answer.{same, weighed, sumOf}
 
 -- The loop at field f of n: the fields before it are in the sum.
 pub record Summing (n : ℕ) (x y : List ℕ) (sum weight start f : ℕ) : Type 0 where

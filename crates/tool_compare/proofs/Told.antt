@@ -7,7 +7,8 @@ use native.Mathlib.Omega.{arith}
 use lib.Dec.{ltb}
 use lib.ListN.{length, getD, take, drop, take-append-drop}
 use borrow.Author.Tests.{ltb-true, ltb-false}
-use Rattle.tool_compare.specs.Answer.{stride, sumOf}
+use Rattle.answers.specs.Answer.{stride}
+use Rattle.tool_compare.specs.Answer.{sumOf}
 use Rattle.tool_compare.specs.Compare.{answer, commonEnd, common, reported, compared}
 use Rattle.tool_compare.specs.Laws.{Tells}
 use Rattle.tool_compare.proofs.Accepted.{others, Accepted, accepted, sumsOf, numbers-are, sums-are}

@@ -9,8 +9,8 @@ use lib.ListN.{length, take, drop, length-drop}
 use lib.Seq.{take-all}
 use lib.Dec.{eqb, ltb}
 use borrow.Author.Tests.{eq-eqb, ne-eqb, lt-ltb, le-ltb}
-use Rattle.tool_compare.specs.Answer.{stride}
-use Rattle.tool_compare.specs.Kind.{fieldsOf, mixed}
+use Rattle.answers.specs.Answer.{fieldsOf, stride}
+use Rattle.tool_compare.specs.Kind.{mixed}
 use Rattle.tool_compare.specs.Compare.{differing, listed, commonEnd, common, cut, Outcome, refused, reported, compared, comparedAs, Reports}
 
 -- The answers that both have are within both.

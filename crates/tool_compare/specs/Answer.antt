@@ -5,16 +5,6 @@ use Prim.Native.Nat.{ℕ, _+_, _*_}
 use lib.Dec.{eqb}
 use lib.ListN.{take, drop}
 
--- Document 01, Trace, and 02, L9: the fields of an answer in order, each by its number of bytes: kind, refusal, value, levels, mask, level,
--- vector, clock.
-abbrev pub fields : List ℕ
-fields = 1 ∷ 1 ∷ 4 ∷ 1 ∷ 1 ∷ 1 ∷ 1 ∷ 8 ∷ []
-
--- The bytes of an answer of such fields.
-abbrev pub stride : List ℕ → ℕ
-stride [] = 0
-stride (n ∷ ns) = n + stride ns
-
 -- The same bytes.
 abbrev pub same : List ℕ → List ℕ → Bool
 same [] [] = true

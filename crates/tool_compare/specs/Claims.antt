@@ -4,7 +4,7 @@ use mathlib.Core.Bool.{true, false}
 use mathlib.Core.List.{List, [], _∷_, _++_}
 use Prim.Native.Nat.{ℕ}
 use lib.ListN.{take, drop, replicate}
-use Rattle.tool_compare.specs.Kind.{plain, clocked}
+use Rattle.answers.specs.Answer.{plain, clocked}
 use Rattle.tool_compare.specs.Compare.{comparedAs, comparedLogs}
 use Rattle.tool_compare.specs.Laws.{TellsAll, LeavesTheRest, Exchanged, FiveExactly}
 use Rattle.tool_compare.specs.Pieces.{InPieces, OtherPiece, CutPiece, MoreOfOne, MoreOfCut}

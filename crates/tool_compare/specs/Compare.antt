@@ -5,8 +5,9 @@ use mathlib.Core.List.{List, [], _∷_, _++_}
 use Prim.Native.Nat.{ℕ, zero, suc, _+_, _*_, _/_, _%_, min}
 use lib.Dec.{eqb, ltb}
 use lib.ListN.{length, take, drop}
-use Rattle.tool_compare.specs.Answer.{stride, same, sumOf}
-use Rattle.tool_compare.specs.Kind.{fieldsOf, kindOf, mixed}
+use Rattle.answers.specs.Answer.{fieldsOf, stride}
+use Rattle.tool_compare.specs.Answer.{same, sumOf}
+use Rattle.tool_compare.specs.Kind.{kindOf, mixed}
 use Rattle.tool_compare.specs.declared.Compared.{Compared}
 
 -- Answer number k of a log, answers being so many bytes long.

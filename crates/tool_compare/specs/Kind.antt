@@ -1,27 +1,10 @@
 -- Document 02, L9: the kind of two logs. Each answer begins with it.
-use mathlib.Core.Bool.{Bool, cond, _&&_, _||_}
+use mathlib.Core.Bool.{Bool, cond, _&&_}
 use mathlib.Core.List.{List}
 use Prim.Native.Nat.{ℕ, zero, suc, _+_, _-_, _*_, _/_}
 use lib.Dec.{eqb, ltb}
-use lib.ListN.{length, getD, take}
-use Rattle.tool_compare.specs.Answer.{fields, stride}
-
--- Kind 10 is without the clock, kind 11 has it.
-abbrev pub plain : ℕ
-plain = 0x10
-
-abbrev pub clocked : ℕ
-clocked = 0x11
-
-abbrev pub fieldCount : ℕ → ℕ
-fieldCount kind = cond (eqb kind clocked) 8 7
-
-abbrev pub fieldsOf : ℕ → List ℕ
-fieldsOf kind = take (fieldCount kind) fields
-
--- The bytes of an answer of a kind: 10 or 18.
-abbrev pub strideOf : ℕ → ℕ
-strideOf kind = stride (fieldsOf kind)
+use lib.ListN.{length, getD}
+use Rattle.answers.specs.Answer.{plain, knownKind, strideOf}
 
 -- The first byte of the first log that is not empty. Two empty ones have no answer, and are taken for logs of kind 10.
 abbrev pub kindOf : List ℕ → List ℕ → ℕ
@@ -33,7 +16,7 @@ begun bytes log = (length log + (bytes - 1)) / bytes
 
 -- Whether answer k begins with the kind, and that is one of the two.
 abbrev pub begins : ℕ → List ℕ → ℕ → Bool
-begins kind log k = (eqb kind plain || eqb kind clocked) && eqb (getD log (k * strideOf kind) 0) kind
+begins kind log k = knownKind kind && eqb (getD log (k * strideOf kind) 0) kind
 
 -- The number of the first among n answers that does not; n if there is none.
 unfoldable pub firstOther : ℕ → List ℕ → ℕ → ℕ

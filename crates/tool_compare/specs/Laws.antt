@@ -5,8 +5,7 @@ use mathlib.Core.Bool.{false, cond}
 use mathlib.Core.List.{List, [], _∷_, _++_}
 use Prim.Native.Nat.{ℕ, _*_, _/_, _%_, _^_, _<_}
 use lib.ListN.{length, getD, take, drop}
-use Rattle.tool_compare.specs.Answer.{stride}
-use Rattle.tool_compare.specs.Kind.{plain, clocked, fieldsOf, strideOf}
+use Rattle.answers.specs.Answer.{plain, clocked, fieldsOf, stride, strideOf}
 use Rattle.tool_compare.specs.Compare.{answer, common, Outcome, comparedAs, comparedLogs}
 
 -- The first numbers of the pairs in a list, and the second ones.

@@ -4,7 +4,7 @@ use mathlib.Core.Logic.{_⊎_}
 use mathlib.Core.List.{List, [], _++_, map}
 use Prim.Native.Nat.{ℕ, _+_, _*_, _≤_}
 use lib.ListN.{length}
-use Rattle.tool_compare.specs.Kind.{strideOf}
+use Rattle.answers.specs.Answer.{strideOf}
 use Rattle.tool_compare.specs.Compare.{Outcome, comparedAs}
 use Rattle.tool_compare.specs.Laws.{numbers, sums}
 

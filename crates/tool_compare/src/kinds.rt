@@ -1,21 +1,16 @@
-// The kind of two logs, 10 or 11: how many fields and bytes an answer of it has, and whether each answer begins with it.
+// The kind of two logs, 10 or 11: how many bytes an answer of it has, and whether each answer begins with it.
 ghost use mathlib.Core.Path.{_≡_};
-ghost use mathlib.Core.Bool.{_||_};
-ghost use lib.Dec.{eqb};
-ghost use Rattle.tool_compare.specs.Kind.{plain, clocked, fieldCount, strideOf, kindOf, begun, firstOther, mixed};
+ghost use Rattle.answers.specs.Answer.{strideOf};
+ghost use Rattle.tool_compare.specs.Kind.{kindOf, begun, firstOther, mixed};
+use answers::PLAIN;
+use answers::known_kind;
 
-// Ruled out: the clock counted as a field of kind 10; seven fields for both.
-pub fn fields_of(kind: u8) -> usize
-    ensures { λ r. ⌜ r ≡ fieldCount kind ⌝ }
-{
-    if kind == 17 { 8 } else { 7 }
-}
-
-// Ruled out: ten bytes for both; eighteen for both.
+// The bytes of an answer of a kind, which are those of its fields.
+// Ruled out: ten for both; eighteen for both.
 pub fn stride_of(kind: u8) -> usize
     ensures { λ r. ⌜ r ≡ strideOf kind ⌝ }
 {
-    if kind == 17 { 18 } else { 10 }
+    answers::length_of(kind)
 }
 
 // The first byte of the first log that is not empty.
@@ -29,7 +24,7 @@ pub fn kind_of(a: &[u8], b: &[u8]) -> u8
     if b.len() > 0 {
         return b[0];
     }
-    16
+    PLAIN
 }
 
 // The answers of a log of a kind, a cut last one too.
@@ -41,12 +36,6 @@ pub fn answers_begun(kind: u8, log: &[u8]) -> usize
     (log.len() + (bytes - 1)) / bytes
 }
 
-fn known(kind: u8) -> bool
-    ensures { λ r. ⌜ r ≡ (eqb kind plain || eqb kind clocked) ⌝ }
-{
-    (kind == 16) | (kind == 17)
-}
-
 // The number of the first answer, a cut last one too, that does not begin with the kind, or of any if that is neither 10 nor 11; how many
 // answers there are if each does.
 // Ruled out: a cut last answer not looked at; a later one; logs of any one kind let through.
@@ -54,7 +43,7 @@ pub fn first_other(kind: u8, log: &[u8]) -> usize
     ensures { λ r. ⌜ r ≡ firstOther kind (now (log .entry)) (begun (strideOf kind) (now (log .entry))) ⌝ }
 {
     let n = answers_begun(kind, log);
-    let is_known = known(kind);
+    let is_known = known_kind(kind);
     let bytes = stride_of(kind);
     let mut at: usize = 0;
     let mut i: usize = 0;

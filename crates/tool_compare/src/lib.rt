@@ -5,18 +5,17 @@ ghost use mathlib.Core.List.{_++_};
 ghost use Prim.Native.Nat.{_≤_, _<_, _*_, _/_, min};
 ghost use lib.ListN.{length, take, drop};
 ghost use denote.Ref.{ptr};
-ghost use Rattle.tool_compare.specs.Answer.{fields, stride, same, sumOf};
+ghost use Rattle.answers.specs.Answer.{fields, stride};
+ghost use Rattle.tool_compare.specs.Answer.{same, sumOf};
 ghost use Rattle.tool_compare.specs.Compare.{differing, listed, compared, comparedAs, comparedLogs, Reports, inNumbers};
-use kinds::fields_of;
+use answers::SIZES;
+use answers::fields_of;
 use kinds::kind_of;
 use kinds::mixed;
 use kinds::stride_of;
 
 mod claims;
 pub mod kinds;
-
-// The bytes of each field of an answer, in order: kind, refusal, value, levels, mask, level, vector, clock.
-const SIZES: [usize; 8] = [1, 1, 4, 1, 1, 1, 1, 8];
 
 // Whether two parts of one length hold the same bytes.
 fn same(x: &[u8], y: &[u8]) -> bool

@@ -12,7 +12,7 @@ use Rattle.qsm.specs.declared.state.Module.{Module}
 use Rattle.trace.specs.Trace.{answerLength}
 use Rattle.trace.specs.Play.{Outcome}
 use Rattle.trace.proofs.Laws.{bytes-each}
-use Rattle.text.specs.declared.difference.Field.the-variants.{Kind}
+use Rattle.answers.specs.declared.Field.the-variants.{Kind}
 use Rattle.tool_judge.specs.Verdict.{verdict, numbered, before}
 use Rattle.tool_judge.specs.Judge.{enough, expected, judged, walkedTo, walked}
 use Rattle.tool_judge.specs.declared.Judged.{Judged}

@@ -21,7 +21,7 @@ use Rattle.trace.specs.declared.Parsed.{Parsed}
 use Rattle.trace.specs.declared.Parsed.the-variants.{Record, Unknown, Cut}
 use Rattle.trace.proofs.Playing.{record-within, play-none, played}
 use Rattle.trace.proofs.Laws.{bytes-each, answers-fit, records-read, read-within, resumes}
-use Rattle.text.specs.declared.difference.Field.{Field}
+use Rattle.answers.specs.declared.Field.{Field}
 use Rattle.tool_judge.specs.Verdict.{alike, equal, firstWrong, wrongIn, verdict, numbered, before}
 use Rattle.tool_judge.specs.Judge.{enough, expected, judged, roomOf, walkedTo, walked}
 use Rattle.tool_judge.specs.Claims.{OwnAccepted, AcceptedEqual, answer, FirstDiffering, StopTold, afterwards, InParts, Met, Claims}

@@ -8,9 +8,10 @@ use lib.Dec.{eqb, ltb}
 use lib.ListN.{length, take, drop, length-append, length-drop, length-take}
 use borrow.Author.Tests.{lt-ltb, le-ltb, ltb-true, ltb-false, eq-eqb, ne-eqb, eqb-true, eqb-false}
 use Rattle.trace.specs.Trace.{answerLength}
-use Rattle.text.specs.declared.difference.Field.{Field}
-use Rattle.text.specs.declared.difference.Field.the-variants.{Kind}
-use Rattle.tool_judge.specs.Verdict.{alike, equal, fieldAt, firstWrong, short, wrongIn, verdict, numbered, before}
+use Rattle.answers.specs.Field.{fieldAt}
+use Rattle.answers.specs.declared.Field.{Field}
+use Rattle.answers.specs.declared.Field.the-variants.{Kind}
+use Rattle.tool_judge.specs.Verdict.{alike, equal, firstWrong, short, wrongIn, verdict, numbered, before}
 use Rattle.tool_judge.specs.declared.Verdict.{Verdict}
 use Rattle.tool_judge.specs.declared.Verdict.the-variants.{Accepted, Wrong}
 use Rattle.tool_judge.proofs.Beginnings.{alike-left, alike-right, alike-front, alike-past, alike-take, alike-self, alike-equal}

@@ -8,8 +8,8 @@ use Rattle.qsm.specs.model.State.{resetModule}
 use Rattle.qsm.specs.declared.state.Module.{Module}
 use Rattle.trace.specs.Trace.{answerLength}
 use Rattle.trace.specs.Play.{play}
-use Rattle.text.specs.declared.difference.Field.{Field}
-use Rattle.text.specs.declared.difference.Field.the-variants.{Kind}
+use Rattle.answers.specs.declared.Field.{Field}
+use Rattle.answers.specs.declared.Field.the-variants.{Kind}
 use Rattle.tool_judge.specs.Verdict.{numbered, before}
 use Rattle.tool_judge.specs.Judge.{enough, expected, judged, walked}
 use Rattle.tool_judge.specs.declared.Judged.{Judged}

@@ -1,6 +1,6 @@
 -- A judgement in numbers: 0 for the field where the log is accepted, which no field has.
 use Prim.Native.Nat.{ℕ}
-use Rattle.tool_judge.specs.Verdict.{fieldNumber}
+use Rattle.answers.specs.Field.{fieldNumber}
 use Rattle.tool_judge.specs.declared.Judged.{Judged}
 use Rattle.tool_judge.specs.declared.Verdict.{Verdict}
 use Rattle.tool_judge.specs.declared.Verdict.the-variants.{Accepted, Wrong}

@@ -4,9 +4,10 @@ use mathlib.Core.List.{List, [], _∷_}
 use Prim.Native.Nat.{ℕ, suc, _+_, _*_, _/_, _%_}
 use lib.Dec.{eqb, ltb}
 use lib.ListN.{length}
+use Rattle.answers.specs.Field.{fieldAt}
 use Rattle.trace.specs.Trace.{answerLength}
-use Rattle.text.specs.declared.difference.Field.{Field}
-use Rattle.text.specs.declared.difference.Field.the-variants.{Kind, Refusal, Value, Levels, Mask, Level, Vector, Clock}
+use Rattle.answers.specs.declared.Field.{Field}
+use Rattle.answers.specs.declared.Field.the-variants.{Kind}
 use Rattle.tool_judge.specs.declared.Verdict.{Verdict}
 use Rattle.tool_judge.specs.declared.Verdict.the-variants.{Accepted, Wrong}
 
@@ -19,25 +20,6 @@ alike (x ∷ xs) (y ∷ ys) = cond (eqb x y) (suc (alike xs ys)) 0
 -- Alike to the ends of both.
 abbrev pub equal : List ℕ → List ℕ → Bool
 equal xs ys = eqb (alike xs ys) (length xs) && eqb (alike xs ys) (length ys)
-
--- Document 01, Trace, and 02, L9: the field that the byte at a place in an answer is of.
-abbrev pub fieldAt : ℕ → Field
-fieldAt i =
-    cond (eqb i 0) Kind
-    (cond (eqb i 1) Refusal
-    (cond (ltb i 6) Value
-    (cond (eqb i 6) Levels (cond (eqb i 7) Mask (cond (eqb i 8) Level (cond (eqb i 9) Vector Clock))))))
-
--- The numbers of the fields, those of which L2 adds up sums. Their names are `fieldName` of the text.
-abbrev pub fieldNumber : Field → ℕ
-fieldNumber Kind = 1
-fieldNumber Refusal = 2
-fieldNumber Value = 4
-fieldNumber Levels = 8
-fieldNumber Mask = 16
-fieldNumber Level = 32
-fieldNumber Vector = 64
-fieldNumber Clock = 128
 
 -- The answer that has the first byte in which two logs differ.
 abbrev pub firstWrong : List ℕ → List ℕ → ℕ

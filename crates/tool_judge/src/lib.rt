@@ -4,18 +4,16 @@ ghost use mathlib.Core.Bool.{cond, not, _&&_};
 ghost use Prim.Native.Nat.{_≤_, min};
 ghost use lib.Dec.{ltb};
 ghost use lib.ListN.{length};
-ghost use Rattle.trace.specs.Trace.{answerLength, answerBytes};
+ghost use Rattle.trace.specs.Trace.{answerLength};
 ghost use Rattle.tool_judge.specs.Verdict.{alike, verdict, numbered, before};
 ghost use Rattle.tool_judge.specs.Judge.{judged, walked, ran};
 
 mod claims;
-pub mod field;
 pub mod numbers;
 
-use field::field_at;
-use qsm::event::Answer;
+use answers::Field;
+use answers::field_at;
 use qsm::state::Module;
-use text::difference::Field;
 use trace::ANSWER_LENGTH;
 use trace::Parsed;
 use trace::refusals::refusal_of;
@@ -46,35 +44,7 @@ pub struct Walked {
 // A walk, and the bytes of the last of the model's answers, or zeros where it gave none.
 pub struct Ran {
     pub walked: Walked,
-    pub ours: [u8; 18],
-}
-
-// The kind of an answer.
-const ANSWER: u8 = 0x11;
-
-fn answer_bytes(a: Answer) -> [u8; 18]
-    ensures { λ r. ⌜ r ≡ answerBytes a ⌝ }
-{
-    [
-        ANSWER,
-        a.refusal,
-        (a.value / 16777216 % 256) as u8,
-        (a.value / 65536 % 256) as u8,
-        (a.value / 256 % 256) as u8,
-        (a.value % 256) as u8,
-        a.levels,
-        a.mask,
-        a.level,
-        a.vector,
-        (a.clock / 72057594037927936 % 256) as u8,
-        (a.clock / 281474976710656 % 256) as u8,
-        (a.clock / 1099511627776 % 256) as u8,
-        (a.clock / 4294967296 % 256) as u8,
-        (a.clock / 16777216 % 256) as u8,
-        (a.clock / 65536 % 256) as u8,
-        (a.clock / 256 % 256) as u8,
-        (a.clock % 256) as u8,
-    ]
+    pub ours: [u8; ANSWER_LENGTH],
 }
 
 // With how many bytes two slices begin alike.
@@ -95,7 +65,7 @@ fn alike(x: &[u8], y: &[u8]) -> usize
 }
 
 // Answer n, x, of which the log has the bytes y.
-fn one(n: usize, x: [u8; 18], y: &[u8]) -> Verdict
+fn one(n: usize, x: [u8; ANSWER_LENGTH], y: &[u8]) -> Verdict
     requires { ⌜ length (now y) ≤ answerLength ⌝ }
     ensures { λ r. ⌜ r ≡ numbered n (verdict x (now (y .entry))) ⌝ }
 {
@@ -110,7 +80,7 @@ fn one(n: usize, x: [u8; 18], y: &[u8]) -> Verdict
 }
 
 // An earlier wrong answer stands.
-fn told(v: Verdict, n: usize, x: [u8; 18], y: &[u8]) -> Verdict
+fn told(v: Verdict, n: usize, x: [u8; ANSWER_LENGTH], y: &[u8]) -> Verdict
     requires { ⌜ length (now y) ≤ answerLength ⌝ }
     ensures { λ r. ⌜ r ≡ before v (numbered n (verdict x (now (y .entry)))) ⌝ }
 {
@@ -145,7 +115,7 @@ pub fn run<'a>(m: Module, trace: &'a [u8], log: &'a [u8], last: bool) -> Ran
     let mut passed: usize = 0;
     let mut n: usize = 0;
     let mut verdict = Verdict::Accepted;
-    let mut ours = [0u8; 18];
+    let mut ours = [0u8; ANSWER_LENGTH];
     while at < trace.len() {
         let p = trace::parse(&trace[at..]);
         let Parsed::Record(e, size) = p else {
@@ -196,7 +166,7 @@ pub fn run<'a>(m: Module, trace: &'a [u8], log: &'a [u8], last: bool) -> Ran
             };
         }
         let end = passed + here;
-        ours = answer_bytes(answer);
+        ours = trace::answer_bytes(answer);
         verdict = told(verdict, n, ours, &log[passed..end]);
         at += size;
         passed = end;

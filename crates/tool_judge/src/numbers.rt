@@ -3,7 +3,7 @@ ghost use mathlib.Core.Path.{_≡_};
 ghost use Rattle.tool_judge.specs.Judge.{judged};
 ghost use Rattle.tool_judge.specs.Numbers.{numberOf, fieldOf, inNumbers};
 use crate::Verdict;
-use crate::field::field_number;
+use answers::field_number;
 
 // The number of the first wrong answer and of its first wrong field, both 0 where the log is accepted; and the refusal that stopped the trace
 // or 0.

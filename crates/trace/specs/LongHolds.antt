@@ -10,6 +10,7 @@ use Rattle.qsm.specs.model.Event.{passes}
 use Rattle.qsm.specs.declared.state.Module.{Module}
 use Rattle.qsm.specs.declared.event.Answer.{Answer}
 use Rattle.qsm.specs.declared.event.Event.the-variants.{Hold}
+use Rattle.answers.specs.Answer as answers
 use Rattle.trace.specs.Trace.{byteAt, longHoldKind, earlier, parsed, answerBody, answerLength, Reader}
 use Rattle.trace.specs.Play.{Outcome, followed, playBy, play}
 use Rattle.trace.specs.Laws.{unknown, recordLength, Each, withStop, unread}
@@ -30,7 +31,7 @@ Without05 t = Each (λ kind. earlier kind ≡ true) (kinds t)
 
 -- The reader of document 01: kinds 01 to 04, and answers of kind 10, which are ten bytes and show no count.
 abbrev pub document01 : Reader
-document01 = record { takes = earlier; size = 10; bytes = λ a. 0x10 ∷ answerBody a }
+document01 = record { takes = earlier; size = answers.plainLength; bytes = λ a. answers.plain ∷ answerBody a }
 
 -- Of a log of n answers of so many bytes: the nine bytes behind each kind byte. A count is left out.
 abbrev pub bodies : ℕ → ℕ → List ℕ → List ℕ
@@ -42,11 +43,11 @@ pub record Same (o p : Outcome) : Type 0 where
   pub state : o .state ≡ p .state
   pub records : o .records ≡ p .records
   pub stop : o .stop ≡ p .stop
-  pub log : bodies 10 (length (o .records)) (o .answers) ≡ bodies answerLength (length (p .records)) (p .answers)
+  pub log : bodies answers.plainLength (length (o .records)) (o .answers) ≡ bodies answerLength (length (p .records)) (p .answers)
 
 -- Room for as many answers.
 abbrev pub AsMany : ℕ → ℕ → Type 0
-AsMany room room′ = room / 10 ≡ room′ / answerLength
+AsMany room room′ = room / answers.plainLength ≡ room′ / answerLength
 
 -- Traces without 05 give the same logs.
 abbrev pub SameLogs : Type 0

@@ -1,11 +1,12 @@
 -- Document 01, Trace, with kind 05 (02, L5) and answers of kind 11 (02, L9): a kind byte, then a body of fixed length; each record gives 18
 -- bytes. Fields are big-endian.
 use mathlib.Core.Bool.{Bool, true, not, cond}
-use mathlib.Core.List.{List, [], _∷_, _++_}
-use Prim.Native.Nat.{ℕ, _+_, _*_, _/_, _%_, _^_}
+use mathlib.Core.List.{List}
+use Prim.Native.Nat.{ℕ, _+_, _*_, _%_}
 use lib.Dec.{eqb, ltb, leb}
 use lib.ListN.{length, getD}
 use Rattle.steps.specs.Bits.{word}
+use Rattle.answers.specs.Answer.{clocked, clockedLength, bodyOf, bytesOf}
 use Rattle.qsm.specs.declared.event.Access.the-variants.{Read, Write}
 use Rattle.qsm.specs.declared.event.Event.{Event}
 use Rattle.qsm.specs.declared.event.Event.the-variants.{Reset, Hold}
@@ -97,41 +98,18 @@ parsedBy takes t = cond (eqb (length t) 0) Cut (cond (takes (byteAt t 0)) (byKin
 abbrev pub parsed : List ℕ → Parsed
 parsed t = parsedBy everyKind t
 
--- What stands behind an answer's kind, in documents 01 and 02 alike: refusal or 0, value (4), driven levels, driven mask, level, vector.
-abbrev pub answerBody : Answer → List ℕ
-answerBody a =
-    a .refusal ∷
-    a .value / 16777216 % 256 ∷
-    a .value / 65536 % 256 ∷
-    a .value / 256 % 256 ∷
-    a .value % 256 ∷
-    a .levels ∷
-    a .mask ∷
-    a .level ∷
-    a .vector ∷
-    []
-
--- The clocks since reset (8).
-abbrev pub clockBytes : ℕ → List ℕ
-clockBytes n =
-    n / 2 ^ 56 % 256 ∷
-    n / 2 ^ 48 % 256 ∷
-    n / 2 ^ 40 % 256 ∷
-    n / 2 ^ 32 % 256 ∷
-    n / 2 ^ 24 % 256 ∷
-    n / 2 ^ 16 % 256 ∷
-    n / 2 ^ 8 % 256 ∷
-    n % 256 ∷
-    []
-
+-- An answer is of kind 11: its body, which stands behind kind 10 too, and the clocks since reset.
 abbrev pub answerKind : ℕ
-answerKind = 0x11
+answerKind = clocked
 
 abbrev pub answerLength : ℕ
-answerLength = 18
+answerLength = clockedLength
+
+abbrev pub answerBody : Answer → List ℕ
+answerBody a = bodyOf (a .refusal) (a .value) (a .levels) (a .mask) (a .level) (a .vector)
 
 abbrev pub answerBytes : Answer → List ℕ
-answerBytes a = answerKind ∷ (answerBody a ++ clockBytes (a .clock))
+answerBytes a = bytesOf (a .refusal) (a .value) (a .levels) (a .mask) (a .level) (a .vector) (a .clock)
 
 -- A reader of traces: the kinds that it takes, and the length and bytes of its answers.
 pub record Reader : Type 0 where

@@ -49,10 +49,7 @@ const WRITE: u8 = 0x04;
 const LONG_HOLD: u8 = 0x05;
 
 // The bytes of an answer.
-pub const ANSWER_LENGTH: usize = 18;
-
-// The kind of an answer.
-const ANSWER: u8 = 0x11;
+pub const ANSWER_LENGTH: usize = answers::CLOCKED_LENGTH;
 
 // The refusal of a hold that would pass 2^64 - 1 clocks.
 const CLOCK_LIMIT: u8 = 10;
@@ -172,29 +169,45 @@ pub fn stop_number(s: Stop) -> u8
     }
 }
 
+// Ruled out: the bytes of kind 10; a byte of another field.
+pub fn answer_bytes(a: Answer) -> [u8; 18]
+    ensures { λ r. ⌜ r ≡ answerBytes a ⌝ }
+{
+    answers::bytes_of(
+        a.refusal,
+        a.value,
+        a.levels,
+        a.mask,
+        a.level,
+        a.vector,
+        a.clock,
+    )
+}
+
 // An answer at the start of what is left of the lent output.
 fn put_answer(left: &mut [u8], a: Answer)
     requires { ⌜ answerLength ≤ length (now left) ⌝ }
     ensures { λ _. ⌜ now (left .exit) ≡ answerBytes a ++ drop answerLength (now (left .entry)) ⌝ }
 {
-    left[0] = ANSWER;
-    left[1] = a.refusal;
-    left[2] = (a.value / 16777216 % 256) as u8;
-    left[3] = (a.value / 65536 % 256) as u8;
-    left[4] = (a.value / 256 % 256) as u8;
-    left[5] = (a.value % 256) as u8;
-    left[6] = a.levels;
-    left[7] = a.mask;
-    left[8] = a.level;
-    left[9] = a.vector;
-    left[10] = (a.clock / 72057594037927936 % 256) as u8;
-    left[11] = (a.clock / 281474976710656 % 256) as u8;
-    left[12] = (a.clock / 1099511627776 % 256) as u8;
-    left[13] = (a.clock / 4294967296 % 256) as u8;
-    left[14] = (a.clock / 16777216 % 256) as u8;
-    left[15] = (a.clock / 65536 % 256) as u8;
-    left[16] = (a.clock / 256 % 256) as u8;
-    left[17] = (a.clock % 256) as u8;
+    let bytes = answer_bytes(a);
+    left[0] = bytes[0];
+    left[1] = bytes[1];
+    left[2] = bytes[2];
+    left[3] = bytes[3];
+    left[4] = bytes[4];
+    left[5] = bytes[5];
+    left[6] = bytes[6];
+    left[7] = bytes[7];
+    left[8] = bytes[8];
+    left[9] = bytes[9];
+    left[10] = bytes[10];
+    left[11] = bytes[11];
+    left[12] = bytes[12];
+    left[13] = bytes[13];
+    left[14] = bytes[14];
+    left[15] = bytes[15];
+    left[16] = bytes[16];
+    left[17] = bytes[17];
 }
 
 // Plays a trace on a module, with its answers into a lent output.

@@ -3,7 +3,7 @@ use Prim.Native.Nat.{_+_, _-_, _≤_}
 use native.Mathlib.Omega.{arith}
 use borrow.Author.Needs.{needs}
 use lib.ListN.{length, getD}
-use Rattle.tool_compare.specs.Answer.{fields}
+use Rattle.answers.specs.Answer.{fields}
 use Rattle.tool_compare.proofs.Summing.{Summing, summing-starts, summed, size-within, weight-small, small, sums}
 use Rattle.tool_compare.proofs.sum.Statement.{statement}
 use Rattle.tool_compare.proofs.sum.Tie as tie

@@ -6,7 +6,7 @@ use native.Mathlib.Omega.{arith}
 use borrow.Author.Needs.{needs}
 use borrow.Author.Tests.{not-true, not-false}
 use lib.ListN.{length, take, length-take, length-drop, length-set}
-use Rattle.tool_compare.specs.Answer.{fields}
+use Rattle.answers.specs.Answer.{fields}
 use Rattle.tool_compare.proofs.Differing.{answers-within}
 use Rattle.tool_compare.proofs.Listing.{Listing, listing-starts, length-is, skips, fits, puts}
 use Rattle.tool_compare.proofs.write.Statement.{statement}

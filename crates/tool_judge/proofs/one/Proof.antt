@@ -5,8 +5,9 @@ use native.Mathlib.Omega.{arith}
 use mir.Syntax.{w8}
 use borrow.Kind.Array.{eInt, good-length}
 use borrow.Author.Needs.{needs}
-use Rattle.text.specs.declared.difference.Field.the-variants.{Kind}
-use Rattle.tool_judge.specs.Verdict.{alike, fieldAt, numbered}
+use Rattle.answers.specs.Field.{fieldAt}
+use Rattle.answers.specs.declared.Field.the-variants.{Kind}
+use Rattle.tool_judge.specs.Verdict.{alike, numbered}
 use Rattle.tool_judge.specs.declared.Verdict.the-variants.{Wrong}
 use Rattle.tool_judge.proofs.Verdicts.{one-right, one-cut, one-field}
 use Rattle.tool_judge.proofs.one.Statement.{statement}

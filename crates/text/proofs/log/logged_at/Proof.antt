@@ -3,8 +3,8 @@ use native.Mathlib.Omega.{arith}
 use lib.ListN.{length}
 use borrow.Author.Needs.{needs}
 use borrow.Author.Tests.{lt-ltb, le-ltb}
+use Rattle.answers.specs.Answer.{lengthOf}
 use Rattle.trace.specs.Trace.{byteAt}
-use Rattle.text.specs.Log.{sizeOf}
 use Rattle.text.proofs.ReadBack.{size-least}
 use Rattle.text.proofs.log.logged_at.Statement.{statement}
 use Rattle.text.proofs.log.logged_at.Tie as tie
@@ -12,12 +12,12 @@ use Rattle.text.proofs.log.logged_at.Tie as tie
 returns : tie.Need-returns
 returns c =
     let rest = now (c .before .before .before .args .rest) in
-    rw (c .nothing .ensures, lt-ltb (length rest) (sizeOf (byteAt rest 0)) (omega (arith, size-least (byteAt rest 0))))
+    rw (c .nothing .ensures, lt-ltb (length rest) (lengthOf (byteAt rest 0)) (omega (arith, size-least (byteAt rest 0))))
 
 returns-2 : tie.Need-returns-2
 returns-2 c =
     let rest = now (c .before .before .before .before .before .before .args .rest) in
-    rw (c .nothing2 .ensures, lt-ltb (length rest) (sizeOf (byteAt rest 0)) (omega (arith, c .before .before .size-of .ensures)))
+    rw (c .nothing2 .ensures, lt-ltb (length rest) (lengthOf (byteAt rest 0)) (omega (arith, c .before .before .length-of .ensures)))
 
 long-at-requires : tie.Need-long-at-requires
 long-at-requires c κs = search needs
@@ -32,7 +32,7 @@ returns-3 c =
     rw (
       c .clock-at .ensures,
       c .before .before .before .before .before .long-at .ensures,
-      le-ltb (length rest) (sizeOf (byteAt rest 0)) (omega (arith, tests .before .size-of .ensures)),
+      le-ltb (length rest) (lengthOf (byteAt rest 0)) (omega (arith, tests .before .length-of .ensures)),
     )
 
 pub logged-at-spec : {M : Type 1} → statement M

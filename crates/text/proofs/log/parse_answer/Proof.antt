@@ -3,8 +3,8 @@ use native.Mathlib.Omega.{arith}
 use lib.ListN.{length}
 use borrow.Author.Needs.{needs}
 use borrow.Author.Tests.{lt-ltb, le-ltb, ne-eqb}
+use Rattle.answers.specs.Answer.{lengthOf}
 use Rattle.trace.specs.Trace.{byteAt}
-use Rattle.text.specs.Log.{sizeOf}
 use Rattle.text.proofs.log.parse_answer.Statement.{statement}
 use Rattle.text.proofs.log.parse_answer.Tie as tie
 
@@ -32,7 +32,7 @@ returns-4 c =
       known .if2 .left,
       ← same .before .other-kind .ensures,
       same .if3 .left,
-      lt-ltb (length rest) (sizeOf (byteAt rest 0)) (omega (arith, c .before .size-of .ensures)),
+      lt-ltb (length rest) (lengthOf (byteAt rest 0)) (omega (arith, c .before .length-of .ensures)),
     )
 
 returns-5 : tie.Need-returns-5
@@ -49,7 +49,7 @@ returns-5 c =
       known .if2 .left,
       ← same .before .other-kind .ensures,
       same .if3 .left,
-      le-ltb (length rest) (sizeOf (byteAt rest 0)) (omega (arith, whole .before .size-of .ensures)),
+      le-ltb (length rest) (lengthOf (byteAt rest 0)) (omega (arith, whole .before .length-of .ensures)),
     )
 
 pub parse-answer-spec : {M : Type 1} → statement M

@@ -13,7 +13,7 @@ abbrev μ-loop : tie.MeasureT-loop
 μ-loop kind log n is-known bytes at₀ i₀ at i = n - i
 
 loop-holds : tie.Need-loop-holds Inv-loop μ-loop
-loop-holds c = looking-starts (c .before .before .answers-begun .ensures) (c .before .known .ensures) (c .stride-of .ensures)
+loop-holds c = looking-starts (c .before .before .answers-begun .ensures) (c .before .known-kind .ensures) (c .stride-of .ensures)
 
 shared-slice-read-if1 : tie.Need-shared-slice-read-if1 Inv-loop μ-loop
 shared-slice-read-if1 c = there (c .before .before .loop .inv) (c .before .loop-test .taken)

@@ -1,6 +1,6 @@
 use borrow.Author.Tests.{eq-eqb, ne-eqb}
-use Rattle.tool_compare.proofs.kinds.fields_of.Statement.{statement}
-use Rattle.tool_compare.proofs.kinds.fields_of.Tie as tie
+use Rattle.answers.proofs.fields_of.Statement.{statement}
+use Rattle.answers.proofs.fields_of.Tie as tie
 
 returns : tie.Need-returns
 returns c = rw (eq-eqb _ _ (c .if1 .taken))

@@ -1,7 +1,7 @@
 use borrow.Author.Needs.{needs}
 use borrow.Author.Tests.{lt-ltb, le-ltb, ne-eqb}
-use Rattle.tool_judge.proofs.field.field_at.Statement.{statement}
-use Rattle.tool_judge.proofs.field.field_at.Tie as tie
+use Rattle.answers.proofs.field_at.Statement.{statement}
+use Rattle.answers.proofs.field_at.Tie as tie
 
 returns : tie.Need-returns
 returns c = rw (c .match .keys1)
