@@ -1,16 +1,16 @@
 use Prim.Native.Nat.{_-_}
 use borrow.Author.Needs.{needs}
-use Rattle.files.proofs.command.word_at.Statement.{statement}
-use Rattle.files.proofs.command.word_at.Tie as tie
+use Rattle.files.proofs.command.word_from.Statement.{statement}
+use Rattle.files.proofs.command.word_from.Tie as tie
 
 abbrev Inv-loop : tie.InvT-loop
-Inv-loop k count left₀ i₀ left i = Unit {0}
+Inv-loop from k count left₀ i₀ left i = Unit {0}
 
 abbrev μ-loop : tie.MeasureT-loop
-μ-loop k count left₀ i₀ left i = count - i
+μ-loop from k count left₀ i₀ left i = count - i
 
-pub word-at-spec : {M : Type 1} → statement M
-word-at-spec =
+pub word-from-spec : {M : Type 1} → statement M
+word-from-spec =
     tie.close
     (tie.spec
     Inv-loop
