@@ -1,6 +1,6 @@
 // Files to read: named by the words of a command, or standard input.
 ghost use Rattle.io.specs.Counts.{Counts};
-use crate::command::word_at;
+use crate::command::word_from;
 use crate::message::fail;
 use crate::words::join;
 use libc::STDIN_FILENO;
@@ -29,13 +29,13 @@ fn named(program: &[u8], name: &[u8]) -> i32 {
     fd
 }
 
-// Opens the file that word k of the command names, numbered from 0 without options; standard input where there is no such word or it is a minus
-// sign. What messages call it is put at the start of `name`. Where it can't be opened, that is said.
-// Ruled out: a name cut short, which names another file; a name longer than its buffer.
-pub fn open(program: &[u8], k: usize, name: &mut [u8]) -> Input
+// Opens the file that word k of the command names, numbered from 0 without options, from an argument on; standard input where there is no such word
+// or it is a minus sign. What messages call it is put at the start of `name`. Where it can't be opened, that is said.
+// Ruled out: a name longer than its buffer.
+pub fn open_from(from: usize, program: &[u8], k: usize, name: &mut [u8]) -> Input
     ensures { λ r. ⌜ Counts (r .name) (now (name .exit)) ⌝ }
 {
-    let n = os::arg(word_at(k), name);
+    let n = os::arg(word_from(from, k), name);
     let error = os::errno();
     if error == libc::EINVAL {
         return standard(name);
@@ -49,4 +49,12 @@ pub fn open(program: &[u8], k: usize, name: &mut [u8]) -> Input
     }
     let fd = named(program, &name[..n]);
     Input { fd, name: n }
+}
+
+// The same from argument 1 on: a program's words.
+// Ruled out: a name longer than its buffer.
+pub fn open(program: &[u8], k: usize, name: &mut [u8]) -> Input
+    ensures { λ r. ⌜ Counts (r .name) (now (name .exit)) ⌝ }
+{
+    open_from(1, program, k, name)
 }

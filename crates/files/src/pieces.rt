@@ -12,6 +12,22 @@ pub struct Filled {
     pub failed: bool,
 }
 
+// One read. A call that a signal interrupts is made again.
+fn read(fd: i32, buf: &mut [u8]) -> isize {
+    let mut turns = u64::MAX;
+    while turns > 0 {
+        let got = libc::read(fd, buf);
+        if got >= 0 {
+            return got;
+        }
+        if os::errno() != libc::EINTR {
+            return got;
+        }
+        turns -= 1;
+    }
+    -1
+}
+
 // One read behind the bytes that wait, unless the input has ended or there is no room for it.
 // Ruled out: a byte that waits overwritten; more bytes reported than the buffer has.
 pub fn fill(fd: i32, buf: &mut [u8], have: usize, ended: bool) -> Filled
@@ -32,7 +48,7 @@ pub fn fill(fd: i32, buf: &mut [u8], have: usize, ended: bool) -> Filled
             failed: false,
         };
     }
-    let got = libc::read(fd, &mut buf[have..]);
+    let got = read(fd, &mut buf[have..]);
     if got <= 0 {
         return Filled {
             total: have,

@@ -1,15 +1,15 @@
 use mathlib.Core.Logic.{⊎-elim}
-use Prim.Native.Nat.{_-_, _<_}
+use Prim.Native.Nat.{_-_, _≤_}
 use native.Mathlib.Omega.{arith}
 use borrow.Author.Needs.{needs}
 use Rattle.files.proofs.command.see.Statement.{statement}
 use Rattle.files.proofs.command.see.Tie as tie
 
 abbrev Inv-loop : tie.InvT-loop
-Inv-loop option second count help₀ version₀ one₀ two₀ unknown₀ words₀ i₀ help version one two unknown words i = words < i
+Inv-loop from option second count help₀ version₀ one₀ two₀ unknown₀ words₀ i₀ help version one two unknown words i = words ≤ i
 
 abbrev μ-loop : tie.MeasureT-loop
-μ-loop option second count help₀ version₀ one₀ two₀ unknown₀ words₀ i₀ help version one two unknown words i = count - i
+μ-loop from option second count help₀ version₀ one₀ two₀ unknown₀ words₀ i₀ help version one two unknown words i = count - i
 
 loop-again : tie.Need-loop-again Inv-loop μ-loop
 loop-again c =
