@@ -1,4 +1,3 @@
-pub mod Small
 pub mod Steps
 pub mod Ended
 pub mod Spaced

@@ -34,7 +34,7 @@ use Rattle.claims_senders.proofs.Taking.{taken}
 use Rattle.claims_senders.proofs.Undamaged.{no-damage}
 use Rattle.claims_senders.proofs.Undamaged as undamaged
 use Rattle.claims_through.specs.Through.{StaysAwake, Ready, sampleOf, bitsIn, OnRxd, FairLine, CameOrLost, AllEnd, StaysUndamaged, NoDamage, wordsCame, WordsThrough, Through}
-use Rattle.claims_through.proofs.Small.{since-small}
+use Rattle.claims_histories.proofs.CountSmall.{since-small}
 use Rattle.claims_through.proofs.Steps.{all-levels, all-stays}
 use Rattle.claims_through.proofs.Ended.{nine, all-ends, nine-sent}
 use Rattle.claims_through.proofs.Spaced.{all-samples, none-spaced}
