@@ -11,8 +11,8 @@ enum-known-e c = search needs
 answer-line-requires : tie.Need-answer-line-requires
 answer-line-requires c κs = search needs
 
-size-of-requires : tie.Need-size-of-requires
-size-of-requires c κs = search needs
+length-of-requires : tie.Need-length-of-requires
+length-of-requires c κs = search needs
 
 enum-told : tie.Need-enum-told
 enum-told c = search needs
@@ -47,7 +47,7 @@ no-line-requires-5 c κs = search needs
 returns : tie.Need-returns
 returns c =
     let parsed = c .before .before .before .before .before .parse-answer .ensures in
-    rw (← parsed, c .before .before .before .e .given .1, c .size-of .ensures, c .before .answer-line .ensures .line)
+    rw (← parsed, c .before .before .before .e .given .1, c .length-of .ensures, c .before .answer-line .ensures .line)
 
 returns-2 : tie.Need-returns-2
 returns-2 c = rw (← c .before .before .before .parse-answer .ensures, c .before .enum-told .given .1, c .no-line .ensures)
@@ -71,7 +71,7 @@ answer-item-spec =
     parse-answer-requires
     enum-known-e
     answer-line-requires
-    size-of-requires
+    length-of-requires
     enum-told
     no-line-requires
     enum-told-2
