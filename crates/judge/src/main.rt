@@ -70,11 +70,11 @@ fn main() {
         b"\
 Judges a log of a trace, from whatever simulator, beside a module fresh from reset. Its first word is accepted, if the log
 is what replay writes, byte for byte, or wrong. Then the first wrong answer, numbered from 0: its field, its record, what the
-chip gives and what the log says, in hexadecimal where it is no answer of ours.
+model gives and what the log says, in hexadecimal where it is no answer of ours.
 
   judge card.trace card.log      wrong: answer 19: value
                                  19: read as user, width 1, command RAM 2 at 0142
-                                 chip: 00000000
+                                 model: 00000000
                                  log: FF000000
                                  end of the trace
 

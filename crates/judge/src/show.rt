@@ -1,4 +1,4 @@
-// The first wrong answer as people read it: its number and field, its record, what the chip gives and what the log says.
+// The first wrong answer as people read it: its number and field, its record, what the model gives and what the log says.
 use answers::Field;
 use files::output::write_first;
 use files::pieces::least;
@@ -60,12 +60,12 @@ fn show_record(n: u64, rest: &[u8]) -> bool {
     write_line(record_line(n, rest[0], e))
 }
 
-// The wrong answer, with the record at the start of a rest of the trace, the first so many bytes of the chip's answer, and the log's.
+// The wrong answer, with the record at the start of a rest of the trace, the first so many bytes of the model's answer, and the log's.
 pub fn show(n: u64, f: Field, rest: &[u8], chip: &[u8], written: usize, log: &[u8]) -> bool {
     let size = least(written, chip.len());
     let told = write_line(wrong_line(n, f));
     let record = show_record(n, rest);
-    let gives = write_line(answer_line(Line::empty().write(b"chip:"), f, &chip[0..size]));
+    let gives = write_line(answer_line(Line::empty().write(b"model:"), f, &chip[0..size]));
     let says = write_line(answer_line(Line::empty().write(b"log:"), f, log));
     told & record & gives & says
 }
