@@ -1,5 +1,5 @@
--- Demand 2's sentence as one claim: 'a frame our transmitter sends is received as the data bits sent, with no error flag, by an awake receiver
--- of the same rate and settings that searches after three ones with no receive flag set, neither of them reset or reconfigured.'
+-- Demand 2 as one claim of two modules with histories of their own (00.D2.2 to 00.D2.4): what the one sends in a frame the other takes, bit for
+-- bit and with no error shown, if it is ready for it and both keep their settings.
 use mathlib.Core.Bool.{Bool, true, false, cond}
 use mathlib.Core.List.{List, [], _∷_, _++_}
 use mathlib.Core.Path.{_≡_}
@@ -130,21 +130,21 @@ module _ (h : Exchange) where
 
 -- What the sentence asks.
 pub record Asked (h : Exchange) : Type 0 where
-  -- 'a frame our transmitter sends': it starts in the sender's next clock, which is not refused 10.
+  -- The frame starts in the sender's next clock, which is not refused 10.
   pub frame : Begins (sender h)
   pub played : passes (sender h) 1 ≡ false
-  -- 'by an awake receiver': on, and not asleep, when the frame has started
+  -- The receiver is on, and not asleep, when the frame has started.
   pub on : RE (receiver h .sci .sccr1) ≡ true
   pub awake : receiver h .sci .receiver .asleep ≡ false
-  -- 'of the same rate and settings'
+  -- One rate, and the same settings.
   pub rate : SCBR (sender h .sci .sccr0) ≡ SCBR (receiver h .sci .sccr0)
   pub same : settings (sender h .sci .sccr1) ≡ settings (receiver h .sci .sccr1)
-  -- 'that searches after three ones'
+  -- It searches, and the last three samples were ones.
   pub searches : receiver h .sci .receiver .framer ≡ searching
   pub ones : three (receiver h .sci .receiver) ≡ true
-  -- 'with no receive flag set'
+  -- None of the six receive flags is set.
   pub noReceiveFlag : shown (receiver h .sci .status) ≡ noFlag
-  -- 'neither of them reset or reconfigured'
+  -- Neither is reset, nor are its settings changed.
   pub senderStays : SenderStays (h .sending) (after (starts h) (sender h))
   pub receiverStays : ReceiverStays (h .meanwhile) (receiver h)
   -- The wire between them, from when the frame has started to its end: sample 154 (M=0) or 170 of the receiver (K4, K5), at 2 x SCBR clocks
@@ -178,9 +178,9 @@ pub record Reads (w : ℕ) (m : Module) (supervisor supervisor′ : Bool) : Type
 
 -- What it promises.
 pub record Arrived (h : Exchange) : Type 0 where
-  -- 'is received as the data bits sent'
+  -- SCDR has the bits that were sent.
   pub word : ended h .sci .receiver .scdr ≡ bitsSent h
-  -- 'with no error flag': of the six receive flags RDRF alone is set. The noise figure is 0.
+  -- Of the six receive flags RDRF alone is set. The noise figure is 0.
   pub flags : shown (ended h .sci .status) ≡ RDRF
   pub noise : ended h .sci .receiver .noise ≡ 0
   -- It is the one frame that came, and none was lost.
