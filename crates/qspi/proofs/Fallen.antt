@@ -6,7 +6,6 @@ use native.Mathlib.Omega.{arith}
 use lib.Dec.{leb, ltb}
 use borrow.Author.Tests.{eq-eqb, eqb-true, eqb-false, le-leb, leb-true, lt-ltb, le-ltb, ltb-true, ltb-false}
 use Rattle.steps.specs.Iterate.{iterate}
-use Rattle.steps.proofs.Iterate.{iterate-add}
 use Rattle.qspi.specs.model.Fields.{cpha, spbr, bitsOf}
 use Rattle.qspi.specs.model.Entry.{changes, mosiAfter, pushed, collectedAfter, withBits, edgeFallen}
 use Rattle.qspi.specs.quick.Falls.{readsBy, mosiSince, collectedSince, edgesFallen}
@@ -18,20 +17,6 @@ use Rattle.qspi.specs.declared.Pins.{Pins}
 use Rattle.qspi.specs.declared.entry.Entry.{Entry}
 use Rattle.qspi.proofs.Mosi.{by-test}
 use Rattle.qspi.proofs.Quiet.{and-parts, edge-turn}
-
--- A step taken first is one of them.
-pub one-first : {A : Type 0} (n k : ℕ) (f : A → A) (x : A) → k < n → iterate (n - (k + 1)) f (f x) ≡ iterate (n - k) f x
-unfolding iterate
-one-first n k f x less =
-    let parts : n - (k + 1) + 1 ≡ n - k = omega arith in
-    sym (iterate-add (n - (k + 1)) 1 f x) ∙ ap (λ (m : ℕ). iterate m f x) parts
-
--- None is left.
-pub run-out : {A : Type 0} (n k : ℕ) (f : A → A) (x : A) → n ≤ k → iterate (n - k) f x ≡ x
-unfolding iterate
-run-out n k f x over =
-    let none : n - k ≡ 0 = omega arith in
-    ap (λ (m : ℕ). iterate m f x) none
 
 -- MOSI changes on every other edge.
 other : (j k : ℕ) → k < 2 → (suc j % 2 ≡ k → ⊥) → j % 2 ≡ k

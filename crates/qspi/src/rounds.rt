@@ -1,7 +1,7 @@
 // Long holds of a queue that wraps: from a state that it comes back to, whole rounds are left out.
 ghost use mathlib.Core.Path.{_≡_};
 ghost use mathlib.Core.Bool.{cond};
-ghost use Prim.Native.Nat.{_%_, _<_, _≤_, min};
+ghost use Prim.Native.Nat.{_%_, _<_, _≤_};
 ghost use Rattle.steps.specs.Iterate.{iterate};
 ghost use Rattle.qspi.specs.model.Queue.{clock};
 use crate::Pins;
@@ -14,15 +14,10 @@ use crate::fields::spbr;
 use crate::fields::spe;
 use crate::fields::wren;
 use crate::queue::wrap_to;
+use steps::of_u32::least;
 
 // In a hold of fewer clocks a round is not looked for.
 pub(crate) const LONG: u32 = 4096;
-
-fn least(a: u32, b: u32) -> u32
-    ensures { λ r. ⌜ r ≡ min a b ⌝ }
-{
-    if a < b { a } else { b }
-}
 
 // What is left of n clocks without whole periods of p.
 fn rest(periodic: bool, n: u32, p: u32) -> u32

@@ -1,10 +1,11 @@
 // The tally of the words that came.
 ghost use mathlib.Core.Path.{_≡_};
 ghost use mathlib.Core.List.{[]};
-ghost use Prim.Native.Nat.{_+_, max};
+ghost use Prim.Native.Nat.{_+_};
 ghost use Rattle.steps.specs.Bits.{digit};
 ghost use Rattle.reception.specs.Tally.{upTo, tallyOf, withFigure, withArrival};
 use crate::arrival::Arrival;
+use steps::of_u8::larger;
 
 // How many words there are, how many of them are noisy, and the worst figure.
 pub struct Tally {
@@ -24,12 +25,6 @@ fn one_more_if(more: bool, count: u64) -> u64
     ensures { λ r. ⌜ r ≡ upTo (count + digit more) ⌝ }
 {
     if more { one_more(count) } else { count }
-}
-
-fn larger(a: u8, b: u8) -> u8
-    ensures { λ r. ⌜ r ≡ max a b ⌝ }
-{
-    if a < b { b } else { a }
 }
 
 impl Tally {

@@ -1,5 +1,5 @@
--- A run of steps in two parts, a step that changes nothing, and a run that comes back to where it began.
-use Prim.Native.Nat.{ℕ, zero, suc, _+_, _*_, _/_, _%_, _<_}
+-- A run of steps in two parts, its first step and its end, a step that changes nothing, and a run that comes back to where it began.
+use Prim.Native.Nat.{ℕ, zero, suc, _+_, _-_, _*_, _/_, _%_, _≤_, _<_}
 use mathlib.Core.Path.{_≡_, refl, sym, ap, _∙_}
 use native.Mathlib.Nat.{add-comm, zero-mul, suc-mul, div-add-mod'}
 use native.Mathlib.Omega.{arith}
@@ -13,6 +13,20 @@ iterate-add zero b f x =
 iterate-add (suc a) b f x =
     let e : suc a + b ≡ suc (a + b) = omega arith in
     ap (λ (n : ℕ). iterate n f x) e ∙ ap f (iterate-add a b f x)
+
+-- A step taken first is one of them.
+pub one-first : {A : Type 0} (n k : ℕ) (f : A → A) (x : A) → k < n → iterate (n - (k + 1)) f (f x) ≡ iterate (n - k) f x
+unfolding iterate
+one-first n k f x less =
+    let parts : n - (k + 1) + 1 ≡ n - k = omega arith in
+    sym (iterate-add (n - (k + 1)) 1 f x) ∙ ap (λ (m : ℕ). iterate m f x) parts
+
+-- None is left.
+pub run-out : {A : Type 0} (n k : ℕ) (f : A → A) (x : A) → n ≤ k → iterate (n - k) f x ≡ x
+unfolding iterate
+run-out n k f x over =
+    let none : n - k ≡ 0 = omega arith in
+    ap (λ (m : ℕ). iterate m f x) none
 
 -- A fixed point stays.
 pub iterate-fixed : {A : Type 0} (n : ℕ) (f : A → A) (s : A) → f s ≡ s → iterate n f s ≡ s

@@ -1,9 +1,13 @@
-// What both halves of the module need: bytes of a register word and the write of it by its byte lanes, and one meaning of
-// 'so many times' (`specs/Iterate`, which has no code of its own).
+// What both halves of the module need: bytes of a register word and the write of it by its byte lanes, one meaning of
+// 'so many times' (`specs/Iterate`, which has no code of its own), and the lesser and larger of two numbers, by their width.
 ghost use mathlib.Core.Path.{_≡_};
 ghost use mathlib.Core.Bool.{cond};
 ghost use Prim.Native.Nat.{_-_};
 ghost use Rattle.steps.specs.Bits.{upperByte, lowerByte, word, merge};
+
+pub mod of_u32;
+pub mod of_u8;
+pub mod of_usize;
 
 // Ruled out: the lower byte; the word undivided.
 pub fn upper_byte(w: u16) -> u8

@@ -2,7 +2,7 @@
 ghost use mathlib.Core.Path.{_≡_};
 ghost use mathlib.Core.Bool.{cond};
 ghost use mathlib.Core.List.{_++_};
-ghost use Prim.Native.Nat.{_≤_, _<_, _*_, _/_, min};
+ghost use Prim.Native.Nat.{_≤_, _<_, _*_, _/_};
 ghost use lib.ListN.{length, take, drop};
 ghost use denote.Ref.{ptr};
 ghost use Rattle.answers.specs.Answer.{fields, stride};
@@ -13,6 +13,7 @@ use answers::fields_of;
 use kinds::kind_of;
 use kinds::mixed;
 use kinds::stride_of;
+use steps::of_usize::least;
 
 mod claims;
 pub mod kinds;
@@ -97,12 +98,6 @@ fn write(k: usize, bytes: usize, a: &[u8], b: &[u8], n: usize, list: &mut [u64])
         at = end;
         i += 1;
     }
-}
-
-fn least(x: usize, y: usize) -> usize
-    ensures { λ r. ⌜ r ≡ min x y ⌝ }
-{
-    if x < y { x } else { y }
 }
 
 // Compares two logs of answers that have the first k fields, and so many bytes.

@@ -10,6 +10,7 @@ use crate::walk::Position;
 use crate::walk::Walked;
 use crate::walk::refusal_at;
 use crate::walk::walk;
+use steps::of_usize::least;
 
 // A mark is made for every so many records, and there are at most so many marks.
 pub const SPACING: u64 = 256;
@@ -26,12 +27,6 @@ pub struct Indexed {
     pub resets: u64,
     pub stop: u8,
     pub refusal: u8,
-}
-
-pub(crate) fn least(x: usize, y: usize) -> usize
-    ensures { λ r. ⌜ r ≡ min x y ⌝ }
-{
-    if x < y { x } else { y }
 }
 
 // The marks that lent numbers have room for.

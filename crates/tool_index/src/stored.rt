@@ -4,7 +4,7 @@ ghost use Prim.Native.Nat.{_+_, _≤_};
 ghost use lib.ListN.{length};
 ghost use Rattle.trace.specs.Trace.{wordAt};
 ghost use Rattle.tool_index.specs.Stored.{ofWords, numberAt, markBytes, storedIn, decoded};
-use crate::index::least;
+use steps::of_usize::least;
 
 // The bytes of a mark.
 pub const BYTES: usize = 16;

@@ -1,7 +1,7 @@
 // A vendor's log judged: accepted exactly if it is what the model gives, else the first wrong answer and its first wrong field.
 ghost use mathlib.Core.Path.{_≡_};
 ghost use mathlib.Core.Bool.{cond, not, _&&_};
-ghost use Prim.Native.Nat.{_≤_, min};
+ghost use Prim.Native.Nat.{_≤_};
 ghost use lib.Dec.{ltb};
 ghost use lib.ListN.{length};
 ghost use Rattle.trace.specs.Trace.{answerLength};
@@ -14,6 +14,7 @@ pub mod numbers;
 use answers::Field;
 use answers::field_at;
 use qsm::state::Module;
+use steps::of_usize::least;
 use trace::ANSWER_LENGTH;
 use trace::Parsed;
 use trace::refusals::refusal_of;
@@ -88,12 +89,6 @@ fn told(v: Verdict, n: usize, x: [u8; ANSWER_LENGTH], y: &[u8]) -> Verdict
         Verdict::Accepted => one(n, x, y),
         Verdict::Wrong(_, _) => v,
     }
-}
-
-fn least(x: usize, y: usize) -> usize
-    ensures { λ r. ⌜ r ≡ min x y ⌝ }
-{
-    if x < y { x } else { y }
 }
 
 // Whether an answer waits for the next part of the log.

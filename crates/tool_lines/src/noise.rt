@@ -1,9 +1,10 @@
 // The noise figures of a line's words, its newline's among them.
 ghost use mathlib.Core.Path.{_≡_};
 ghost use mathlib.Core.Bool.{cond};
-ghost use Prim.Native.Nat.{_+_, _-_, _^_, min, max};
+ghost use Prim.Native.Nat.{_+_, _-_, _^_, min};
 ghost use Rattle.tool_lines.specs.Noise.{silent, withFigure, added, heard, unheard};
 use crate::line::NEWLINE;
+use steps::of_u8::larger;
 
 // The total of some figures, and the worst of them.
 #[repr(C)]
@@ -29,12 +30,6 @@ fn summed(total: u64, figure: u8) -> u64
     } else {
         u64::MAX
     }
-}
-
-fn larger(a: u8, b: u8) -> u8
-    ensures { λ r. ⌜ r ≡ max a b ⌝ }
-{
-    if a < b { b } else { a }
 }
 
 impl Noise {

@@ -10,7 +10,7 @@ use crate::view::View;
 use qsm::event::Access;
 use qsm::event::Event;
 use qsm::state::Module;
-use until_change::least;
+use steps::of_u32::least;
 use until_change::number;
 use until_change::room;
 use until_change::shown;

@@ -1,7 +1,7 @@
 // How long an answer stays as it is: the clocks until the pins or the request show something else, while pins and RXD keep their levels.
 ghost use mathlib.Core.Path.{_≡_};
 ghost use mathlib.Core.Bool.{true};
-ghost use Prim.Native.Nat.{_+_, _-_, _≤_, max, min};
+ghost use Prim.Native.Nat.{_+_, _-_, _≤_, min};
 ghost use Rattle.qsm.specs.model.Event.{clockLimit, held, pinsOf};
 ghost use Rattle.until_change.specs.Change.{look, sameLook, number, untilChange};
 ghost use Rattle.until_change.specs.Steady.{serialSteady, serialStill, steady, ahead, Returned};
@@ -13,6 +13,8 @@ use qsm::request::request_of;
 use qsm::state::Module;
 use qspi::Pins;
 use sci::serial::Sci;
+use steps::of_u32::larger;
+use steps::of_u32::least;
 
 // The longest hold.
 const LONGEST: u32 = 4294967295;
@@ -60,24 +62,11 @@ impl Look {
     }
 }
 
-// Ruled out: the larger; always the first.
-pub fn least(a: u32, b: u32) -> u32
-    ensures { λ r. ⌜ r ≡ min a b ⌝ }
-{
-    if a < b { a } else { b }
-}
-
 // Ruled out: the lower half of a number that does not fit; always k.
 pub fn within(left: u64, k: u32) -> u32
     ensures { λ r. ⌜ r ≡ min left k ⌝ }
 {
     if left < k as u64 { left as u32 } else { k }
-}
-
-fn larger(a: u32, b: u32) -> u32
-    ensures { λ r. ⌜ r ≡ max a b ⌝ }
-{
-    if a < b { b } else { a }
 }
 
 // Clocks that leave what the serial half shows: all at rest, else those before a sample.

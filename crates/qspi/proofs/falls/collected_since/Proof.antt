@@ -6,7 +6,7 @@ use borrow.Author.Needs.{needs}
 use Rattle.steps.specs.Iterate.{iterate}
 use Rattle.qspi.specs.model.Entry.{pushed}
 use Rattle.qspi.specs.quick.Falls.{readsBy, collectedSince}
-use Rattle.qspi.proofs.Fallen.{one-first, run-out}
+use Rattle.steps.proofs.Iterate.{one-first, run-out}
 use Rattle.qspi.proofs.falls.collected_since.Statement.{statement}
 use Rattle.qspi.proofs.falls.collected_since.Tie as tie
 
