@@ -11,7 +11,8 @@ use Rattle.sci.specs.model.Control as control
 use Rattle.sci.specs.model.Control.{sccr0Bits, sccr1Bits}
 use Rattle.sci.specs.model.Receiver.{startState}
 use Rattle.sci.specs.model.Transmitter.{sent}
-use Rattle.sci.specs.model.Serial.{active, due, heard, afterSent, prescaled, sampled, clocked, sccr1Word, sccr0Set, stopped, withSccr1, wroteSccr0, wroteSccr1}
+use Rattle.sci.specs.model.Parts.{afterSent}
+use Rattle.sci.specs.model.Serial.{active, due, heard, prescaled, sampled, clocked, sccr1Word, sccr0Set, stopped, withSccr1, wroteSccr0, wroteSccr1}
 use Rattle.sci.specs.declared.receiver.Receiver.{Receiver}
 use Rattle.sci.specs.declared.serial.Sci.{Sci}
 use Rattle.qsm.specs.model.State.{resetModule}

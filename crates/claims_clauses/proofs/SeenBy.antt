@@ -13,7 +13,8 @@ use Rattle.sci.specs.model.Status.{raise, raiseIf, fallIf}
 use Rattle.sci.specs.model.Control as control
 use Rattle.sci.specs.model.Receiver.{raised, entered, statusAfter, outcome, received}
 use Rattle.sci.specs.model.Transmitter.{sent}
-use Rattle.sci.specs.model.Serial.{active, due, heard, afterSent, prescaled, sampled, clocked}
+use Rattle.sci.specs.model.Parts.{afterSent}
+use Rattle.sci.specs.model.Serial.{active, due, heard, prescaled, sampled, clocked}
 use Rattle.sci.specs.declared.flags.Flags.{Flags}
 use Rattle.sci.specs.declared.framer.Frame.{Frame}
 use Rattle.sci.specs.declared.receiver.Receiver.{Receiver}

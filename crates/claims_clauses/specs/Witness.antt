@@ -6,7 +6,8 @@ use Prim.Native.Nat.{ℕ, _+_}
 use lib.ListN.{take, drop}
 use Rattle.sci.specs.model.Flags.{RDRF, flag}
 use Rattle.sci.specs.model.Status.{has}
-use Rattle.sci.specs.model.Serial.{resetSci, withStatus}
+use Rattle.sci.specs.model.Parts.{withStatus}
+use Rattle.sci.specs.model.Serial.{resetSci}
 use Rattle.sci.specs.claims.Levels.{lowBits}
 use Rattle.sci.specs.claims.Moves.{lasting}
 use Rattle.sci.specs.declared.receiver.Received.{Received}

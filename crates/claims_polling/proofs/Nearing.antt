@@ -12,7 +12,8 @@ use Rattle.sci.specs.claims.Moves.{rt1With}
 use Rattle.sci.specs.claims.Sound.{Fits}
 use Rattle.sci.specs.declared.framer.Framer.{Framer}
 use Rattle.sci.proofs.Membership.{and-left, and-right}
-use Rattle.sci.proofs.Frames.{by-cond, Adjusting, adjusting}
+use Rattle.sci.proofs.Adjusting.{Adjusting, adjusting}
+use Rattle.sci.proofs.Frames.{by-cond}
 use Rattle.claims_polling.specs.Spacing.{apart}
 
 -- Past the start bit: in the stop bit, in the last data bit, and in one that others follow, after r of its samples.

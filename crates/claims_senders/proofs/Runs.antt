@@ -10,7 +10,8 @@ use borrow.Author.Tests.{eqb-true, eqb-false, leb-true}
 use Rattle.sci.specs.model.Framer.{searching, ends, frameOf, collected, startBit, stopBit, fixed, nextRt, nearNext, nearThis, afterOne, earlyFall, lateFall, adjusts, adjusted, framed}
 use Rattle.sci.specs.declared.framer.Framer.{Framer}
 use Rattle.sci.proofs.Membership.{and-left, and-right}
-use Rattle.sci.proofs.Frames.{by-cond, adjusting}
+use Rattle.sci.proofs.Adjusting.{adjusting}
+use Rattle.sci.proofs.Frames.{by-cond}
 use Rattle.sci.proofs.Walk.{unmoved}
 use Rattle.claims_senders.specs.Heard.{endedIn}
 use Rattle.claims_senders.proofs.Inside.{inStart, inData, Inside, early, late, taken, fixed-on, not-last, turned}

@@ -6,7 +6,7 @@ use native.Mathlib.Nat.{zero-add}
 use Rattle.steps.specs.Iterate.{iterate}
 use Rattle.sci.specs.model.Flags.{receiveFlags}
 use Rattle.sci.specs.model.Status.{markSeen, fallSeen}
-use Rattle.sci.specs.model.Serial.{withStatus}
+use Rattle.sci.specs.model.Parts.{withStatus}
 use Rattle.sci.specs.declared.serial.Sci.{Sci}
 use Rattle.qspi.specs.model.Parts.{withSpsr}
 use Rattle.qspi.specs.model.Spsr.{flagsSeen}

@@ -16,7 +16,8 @@ use Rattle.sci.specs.model.Bits.{disagreed, parityBit}
 use Rattle.sci.specs.model.Framer.{searching, frameOf, startBit, dataBit, stopBit, fixed, adjusts, framed}
 use Rattle.sci.specs.model.Receiver.{outcome, raised, entered, statusAfter, receiverAfter, received}
 use Rattle.sci.specs.model.Transmitter.{sent}
-use Rattle.sci.specs.model.Serial.{active, due, heard, afterSent, sampled, prescaled, clocked, sccr1Word, stopped, withSccr1, dataWritten, sccr0Set, wroteSccr0, wroteSccr1, sccr0Guarded, sccr1Guarded}
+use Rattle.sci.specs.model.Parts.{afterSent}
+use Rattle.sci.specs.model.Serial.{active, due, heard, sampled, prescaled, clocked, sccr1Word, stopped, withSccr1, dataWritten, sccr0Set, wroteSccr0, wroteSccr1, sccr0Guarded, sccr1Guarded}
 use Rattle.sci.specs.claims.History.{Step, reset, clock, reads, writesSccr0, writesSccr1, writesScdr, step}
 use Rattle.sci.specs.claims.Figure.{rt, startOnes, disagreements, figure, mixed, anyMixed, noisy, enters, withSum, figureAfter, noisiest, Figures}
 use Rattle.sci.specs.claims.Levels.{Unmoved}

@@ -1,15 +1,16 @@
 -- One sample of the framer: RT stays within its bit, and a frame comes one sample nearer to its end.
 use mathlib.Core.Path.{_≡_, refl, sym, _∙_}
-use mathlib.Core.Bool.{Bool, true, false, cond, not, _&&_, _||_, true≢false, false≢true}
+use mathlib.Core.Bool.{Bool, true, false, cond, not, _&&_, true≢false, false≢true}
 use Prim.Native.Nat.{ℕ, suc, _+_, _-_, _*_, _%_, _≤_, _<_}
 use native.Mathlib.Omega.{arith}
-use lib.Dec.{eqb, leb, ltb}
-use borrow.Author.Tests.{eqb-true, eqb-false, ltb-true, not-true}
+use lib.Dec.{eqb, leb}
+use borrow.Author.Tests.{eqb-true, eqb-false}
 use Rattle.sci.specs.model.Bits.{vote, onesOf}
-use Rattle.sci.specs.model.Framer.{more, searching, ends, searched, judged, startBit, dataBit, stopBit, inBit, fixed, afterOne, nearNext, nearThis, earlyFall, lateFall, adjusts, adjusted, framed}
-use Rattle.sci.specs.claims.Sound.{span, togo, Fits}
+use Rattle.sci.specs.model.Framer.{more, searching, ends, searched, judged, startBit, dataBit, stopBit, inBit, fixed, earlyFall, adjusts, adjusted, framed}
+use Rattle.sci.specs.claims.Sound.{togo, Fits}
 use Rattle.sci.specs.declared.framer.Framer.{Framer}
 use Rattle.sci.proofs.Membership.{and-left, and-right}
+use Rattle.sci.proofs.Adjusting.{Adjusting, adjusting}
 
 pub by-cond : {A : Type 0} (P : A → Type 0) (b : Bool) {x y : A} → (b ≡ true → P x) → (b ≡ false → P y) → P (cond b x y)
 by-cond P true f g = f refl
@@ -204,39 +205,7 @@ fixed-at n true false left rt first second noise moved shift three x i =
 fixed-at n false starting left rt first second noise moved shift three x i =
     search-moved n three x (at false starting left rt first second noise moved shift) refl i
 
--- An adjustment comes with a zero, in a data bit.
-pub record Adjusting (f : Framer) (x : Bool) : Type 0 where
-  pub zero : x ≡ false
-  pub framing : f .framing ≡ true
-  pub starting : f .starting ≡ false
-  pub data-bit : 0 < f .left
-
-early-data : (f : Framer) → earlyFall f ≡ true → 0 < f .left
-early-data f e = omega (arith, ltb-true 1 (f .left) (and-right (nearNext f) (ltb 1 (f .left)) e))
-
-late-data : (f : Framer) → lateFall f ≡ true → 0 < f .left
-late-data f e =
-    ltb-true 0 (f .left) (and-right (nearThis f) (ltb 0 (f .left)) (and-left (nearThis f && ltb 0 (f .left)) (not (f .moved)) e))
-
-pub adjusting : (n : ℕ) (f : Framer) (three x : Bool) → adjusts n f three x ≡ true → Adjusting f x
-adjusting n f three x e =
-    let b : Bool = not x && three && f .framing in
-    let a : Bool = b && not (f .starting) && afterOne n f in
-    let u : b && not (f .starting) ≡ true = and-left (b && not (f .starting)) (afterOne n f) (and-left a (earlyFall f || lateFall f) e) in
-    let v : b ≡ true = and-left b (not (f .starting)) u in
-    record {
-      zero = not-true x (and-left (not x) three (and-left (not x && three) (f .framing) v));
-      framing = and-right (not x && three) (f .framing) v;
-      starting = not-true (f .starting) (and-right b (not (f .starting)) u);
-      data-bit = either (earlyFall f) (lateFall f) (and-right a (earlyFall f || lateFall f) e) (early-data f) (late-data f);
-    }
-  where
-    either : (a b : Bool) → a || b ≡ true → (a ≡ true → 0 < f .left) → (b ≡ true → 0 < f .left) → 0 < f .left
-    either true b e g h = g refl
-    either false true e g h = h refl
-    either false false e g h = absurd (false≢true e)
-
--- It leaves RT1 of a data bit.
+-- An adjustment leaves RT1 of a data bit.
 adjusted-moved : (n : ℕ) (f : Framer) (x : Bool) → Adjusting f x → Fits n f → Moved n f x (adjusted f)
 adjusted-moved n f x a i =
     let d : 0 < f .left = a .data-bit in
@@ -270,27 +239,3 @@ moved n f three x i =
     by-cond (Moved n f x) (adjusts n f three x) (λ e. adjusted-moved n f x (adjusting n f three x e) i)
     (λ e.
     fixed-at n (f .framing) (f .starting) (f .left) (f .rt) (f .first) (f .second) (f .noise) (f .moved) (f .shift) three x i)
-
--- A frame that runs has begun: its end is nearer than a whole frame.
-pub within : (n : ℕ) (f : Framer) → Fits n f → togo n f < span n
-within n f i = go (f .framing) (f .starting) (i .early) (i .late)
-  where
-    go : (framing starting : Bool) →
-        (framing ≡ true → starting ≡ true → (0 < f .rt) × (f .rt < 16) × (f .left ≡ n)) →
-        (framing ≡ true → starting ≡ false → (f .rt % 16 < 16 * f .left + 10) × (f .left ≤ n)) →
-        cond framing (cond starting (span n - f .rt) (16 * f .left + 10 - f .rt % 16)) 0 < span n
-    go true true g h = let t = g refl refl in omega arith
-    go true false g h = let t = h refl refl in omega arith
-    go false starting g h = omega arith
-
--- With no sample to go no frame runs.
-pub no-frame : (n : ℕ) (f : Framer) → Fits n f → togo n f ≡ 0 → f ≡ searching
-no-frame n f i z = i .rests (go (f .framing) (f .starting) (i .early) (i .late) z)
-  where
-    go : (framing starting : Bool) →
-        (framing ≡ true → starting ≡ true → (0 < f .rt) × (f .rt < 16) × (f .left ≡ n)) →
-        (framing ≡ true → starting ≡ false → (f .rt % 16 < 16 * f .left + 10) × (f .left ≤ n)) →
-        cond framing (cond starting (span n - f .rt) (16 * f .left + 10 - f .rt % 16)) 0 ≡ 0 → framing ≡ false
-    go true true g h e = let t = g refl refl in absurd (omega arith)
-    go true false g h e = let t = h refl refl in absurd (omega arith)
-    go false starting g h e = refl

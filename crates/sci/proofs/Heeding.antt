@@ -12,7 +12,8 @@ use Rattle.sci.specs.claims.Members.{member}
 use Rattle.sci.specs.model.Status.{fallSeen}
 use Rattle.sci.specs.model.Control.{RE, sccr1Bits, settings}
 use Rattle.sci.specs.model.Transmitter.{sent}
-use Rattle.sci.specs.model.Serial.{sccr1Word, withSleep, withSccr1, stopped, wroteSccr1}
+use Rattle.sci.specs.model.Parts.{withSleep}
+use Rattle.sci.specs.model.Serial.{sccr1Word, withSccr1, stopped, wroteSccr1}
 use Rattle.sci.specs.claims.Line.{read}
 use Rattle.sci.specs.claims.Wire.{Access, readStatus, readData, writeData, writeControl, accessed, Same, hearing}
 use Rattle.sci.specs.declared.status.Status.{Status}

@@ -2,6 +2,7 @@ pub mod Votes
 pub mod Membership
 pub mod Flagged
 pub mod Marks
+pub mod Adjusting
 pub mod Frames
 pub mod Sound
 pub mod Same
@@ -62,5 +63,6 @@ pub mod Figure
 pub mod Figures
 pub mod Moves
 pub mod Counts
+pub mod Resting
 pub mod Rest
 pub mod ParityTable

@@ -15,7 +15,8 @@ use Rattle.sci.specs.model.Framer.{searching, begun, begins, searched, s
 use Rattle.sci.specs.claims.Levels.{lowBits, framerAfter}
 use Rattle.sci.specs.claims.Moves.{rt1With, Falls, Rule, LastDecided, lasting, Moves}
 use Rattle.sci.specs.declared.framer.Framer.{Framer}
-use Rattle.sci.proofs.Frames.{by-cond, adjusting}
+use Rattle.sci.proofs.Adjusting.{adjusting}
+use Rattle.sci.proofs.Frames.{by-cond}
 use Rattle.sci.proofs.Walk.{unmoved}
 use Rattle.sci.proofs.Heard.{exact-rate}
 

@@ -13,7 +13,8 @@ use Rattle.sci.specs.model.Status.{raiseIf, fallIf}
 use Rattle.sci.specs.model.Receiver.{three, reaches, outcome, entered, statusAfter, receiverAfter, received}
 use Rattle.sci.specs.model.Account.{accounted}
 use Rattle.sci.specs.model.Transmitter.{beginsPreamble, beginsFrame, ends as ended, sent}
-use Rattle.sci.specs.model.Serial.{afterReceived, heard, afterSent, sampled, asks}
+use Rattle.sci.specs.model.Parts.{afterReceived, afterSent}
+use Rattle.sci.specs.model.Serial.{heard, sampled, asks}
 use Rattle.sci.specs.quick.Plain.{busy, rests, rested, plain, passed, listened, turns, shifted}
 use Rattle.sci.specs.declared.status.Status.{Status}
 use Rattle.sci.specs.declared.framer.Framer.{Framer}

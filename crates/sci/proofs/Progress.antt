@@ -1,21 +1,33 @@
 -- Ones lead a receiver that is on and awake to one state of its line.
 use mathlib.Core.Path.{_≡_, refl, subst}
-use mathlib.Core.Bool.{Bool, true, false, not, _&&_}
+use mathlib.Core.Bool.{Bool, true, false, cond, not, _&&_}
 use mathlib.Core.List.{List, [], _∷_}
-use Prim.Native.Nat.{ℕ, zero, suc, _+_, _≤_, _<_}
+use Prim.Native.Nat.{ℕ, zero, suc, _+_, _-_, _*_, _%_, _≤_, _<_}
 use native.Mathlib.Omega.{arith}
 use native.Mathlib.Decide.{decLt}
 use Rattle.sci.specs.model.Control.{M, bitsOf, frameSamples}
 use Rattle.sci.specs.model.Framer.{searching, ends, framed}
 use Rattle.sci.specs.model.Receiver.{three, idleCount, outcome, receiverAfter, received}
 use Rattle.sci.specs.claims.Line.{Op, sample, read, act, acts, Ones, samplesIn, resyncSamples}
-use Rattle.sci.specs.claims.Sound.{span, togo, Sound}
+use Rattle.sci.specs.claims.Sound.{span, togo, Fits, Sound}
 use Rattle.sci.specs.claims.Alike.{line}
 use Rattle.sci.specs.declared.framer.Framer.{Framer}
 use Rattle.sci.specs.declared.receiver.Receiver.{Receiver}
 use Rattle.sci.specs.declared.receiver.Received.{Received}
-use Rattle.sci.proofs.Frames.{Moved, moved, no-frame}
+use Rattle.sci.proofs.Frames.{Moved, moved}
 use Rattle.sci.proofs.Sound.{sound-act}
+
+-- With no sample to go no frame runs.
+no-frame : (n : ℕ) (f : Framer) → Fits n f → togo n f ≡ 0 → f ≡ searching
+no-frame n f i z = i .rests (go (f .framing) (f .starting) (i .early) (i .late) z)
+  where
+    go : (framing starting : Bool) →
+        (framing ≡ true → starting ≡ true → (0 < f .rt) × (f .rt < 16) × (f .left ≡ n)) →
+        (framing ≡ true → starting ≡ false → (f .rt % 16 < 16 * f .left + 10) × (f .left ≤ n)) →
+        cond framing (cond starting (span n - f .rt) (16 * f .left + 10 - f .rt % 16)) 0 ≡ 0 → framing ≡ false
+    go true true g h e = let t = g refl refl in absurd (omega arith)
+    go true false g h e = let t = h refl refl in absurd (omega arith)
+    go false starting g h e = refl
 
 -- After k ones: a running frame is near its end, an ended one has left the idle count near its limit.
 pub record Progress (n k : ℕ) (r : Receiver) : Type 0 where

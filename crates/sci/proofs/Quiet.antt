@@ -9,7 +9,8 @@ use Rattle.steps.specs.Iterate.{iterate}
 use Rattle.steps.proofs.Iterate.{iterate-add, iterate-fixed}
 use Rattle.sci.specs.model.Control.{SCBR, RE}
 use Rattle.sci.specs.model.Transmitter.{sent}
-use Rattle.sci.specs.model.Serial.{active, heard, afterSent, sampled, clocked}
+use Rattle.sci.specs.model.Parts.{afterSent}
+use Rattle.sci.specs.model.Serial.{active, heard, sampled, clocked}
 use Rattle.sci.specs.quick.Quiet.{untilDue, quiet, withCount, skipped}
 use Rattle.sci.specs.declared.serial.Sci.{Sci}
 

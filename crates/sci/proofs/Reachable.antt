@@ -15,7 +15,8 @@ use Rattle.sci.specs.model.Transmitter.{runs, sent}
 use Rattle.sci.specs.claims.Line.{sample, read, act, readStatus}
 use Rattle.sci.specs.claims.Sound.{Sound}
 use Rattle.sci.specs.claims.Alike.{Same}
-use Rattle.sci.specs.model.Serial.{resetSci, active, due, heard, afterSent, sampled, counted, prescaled, clocked, sccr1Word, withStatus, dataWritten, wroteSccr0, stopped, withSleep, withSccr1, wroteSccr1, sccr0Guarded, sccr1Guarded}
+use Rattle.sci.specs.model.Parts.{afterSent, withStatus, withSleep}
+use Rattle.sci.specs.model.Serial.{resetSci, active, due, heard, sampled, counted, prescaled, clocked, sccr1Word, dataWritten, wroteSccr0, stopped, withSccr1, wroteSccr1, sccr0Guarded, sccr1Guarded}
 use Rattle.sci.specs.claims.History.{Step, reset, clock, reads, writesSccr0, writesSccr1, writesScdr, step, run, receiving}
 use Rattle.sci.specs.declared.status.Status.{Status}
 use Rattle.sci.specs.declared.receiver.Receiver.{Receiver}

@@ -11,7 +11,8 @@ use Rattle.sci.specs.model.Receiver.{startState}
 use Rattle.sci.specs.claims.Line.{Op, read, act, acts, watch}
 use Rattle.sci.specs.claims.Alike.{Alike}
 use Rattle.sci.specs.claims.Resync.{Started}
-use Rattle.sci.specs.model.Serial.{resetSci, active, due, sccr1Word, dataWritten, wroteSccr0, wroteSccr1, sccr0Guarded, sccr1Guarded, stopped, withSleep, withSccr1}
+use Rattle.sci.specs.model.Parts.{withSleep}
+use Rattle.sci.specs.model.Serial.{resetSci, active, due, sccr1Word, dataWritten, wroteSccr0, wroteSccr1, sccr0Guarded, sccr1Guarded, stopped, withSccr1}
 use Rattle.sci.specs.claims.History.{Step, reset, clock, reads, writesSccr0, writesSccr1, writesScdr, step, run, receiving, ops}
 use Rattle.sci.specs.claims.Demand3.{Off, Compared, Recovered}
 use Rattle.sci.specs.declared.receiver.Receiver.{Receiver}

@@ -8,7 +8,8 @@ use lib.Dec.{eqb, leb}
 use borrow.Author.Tests.{ne-eqb, le-leb, lt-leb}
 use Rattle.sci.specs.model.Control.{SCBR, TE, RE, frameSamples}
 use Rattle.sci.specs.model.Transmitter.{runs, sent}
-use Rattle.sci.specs.model.Serial.{active, due, heard, afterSent, sampled, counted, clocked}
+use Rattle.sci.specs.model.Parts.{afterSent}
+use Rattle.sci.specs.model.Serial.{active, due, heard, sampled, counted, clocked}
 use Rattle.sci.specs.declared.serial.Sci.{Sci}
 use Rattle.sci.proofs.Sending.{Sending}
 

@@ -10,7 +10,8 @@ use Rattle.sci.specs.claims.Members.{member}
 use Rattle.sci.specs.model.Status.{has, raiseIf, fallIf}
 use Rattle.sci.specs.model.Control.{SCBR, M, TE, RE, bitsOf, frameSamples}
 use Rattle.sci.specs.model.Transmitter.{beginsFrame, free as free′, ends, sent}
-use Rattle.sci.specs.model.Serial.{active, due, heard, afterSent, sampled, counted, prescaled, clocked, sccr1Word, withSccr1, stopped, wroteSccr1}
+use Rattle.sci.specs.model.Parts.{afterSent}
+use Rattle.sci.specs.model.Serial.{active, due, heard, sampled, counted, prescaled, clocked, sccr1Word, withSccr1, stopped, wroteSccr1}
 use Rattle.sci.specs.claims.Link.{dataBits}
 use Rattle.sci.specs.claims.Wire.{Access, readStatus, readData, writeData, writeControl, accessed}
 use Rattle.sci.specs.declared.status.Status.{Status}

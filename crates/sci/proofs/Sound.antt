@@ -1,8 +1,8 @@
 -- Samples, reads, a start state and the transmitter's flags keep what holds of every receiver that is on.
 use mathlib.Core.Path.{_≡_, refl}
-use mathlib.Core.Bool.{Bool, true, false, not, _&&_, _||_, false≢true}
+use mathlib.Core.Bool.{Bool, true, false, cond, not, _&&_, _||_, false≢true}
 use mathlib.Core.List.{List, [], _∷_}
-use Prim.Native.Nat.{ℕ, suc, _+_, _≤_, _<_}
+use Prim.Native.Nat.{ℕ, suc, _+_, _-_, _*_, _%_, _≤_, _<_}
 use native.Mathlib.Omega.{arith}
 use lib.Dec.{eqb}
 use borrow.Author.Tests.{eqb-false}
@@ -12,7 +12,7 @@ use Rattle.sci.specs.model.Bits.{parityBit}
 use Rattle.sci.specs.model.Framer.{ends, frameOf, framed}
 use Rattle.sci.specs.model.Receiver.{startState, three, takes, full, idleCount, outcome, receiverAfter, received}
 use Rattle.sci.specs.claims.Line.{Op, sample, read, act, acts, looked, fetched, readStatus}
-use Rattle.sci.specs.claims.Sound.{span, togo, Sound}
+use Rattle.sci.specs.claims.Sound.{span, togo, Fits, Sound}
 use Rattle.sci.specs.declared.status.Status.{Status}
 use Rattle.sci.specs.declared.framer.Framer.{Framer}
 use Rattle.sci.specs.declared.receiver.Receiver.{Receiver}
@@ -20,7 +20,19 @@ use Rattle.sci.specs.declared.receiver.Outcome.{Outcome}
 use Rattle.sci.specs.declared.receiver.Received.{Received}
 use Rattle.sci.proofs.Membership.{and-left}
 use Rattle.sci.proofs.Marks.{Marked, marked-after, marked-mark-on, marked-fallSeen-on}
-use Rattle.sci.proofs.Frames.{Moved, moved, within}
+use Rattle.sci.proofs.Frames.{Moved, moved}
+
+-- A frame that runs has begun: its end is nearer than a whole frame.
+within : (n : ℕ) (f : Framer) → Fits n f → togo n f < span n
+within n f i = go (f .framing) (f .starting) (i .early) (i .late)
+  where
+    go : (framing starting : Bool) →
+        (framing ≡ true → starting ≡ true → (0 < f .rt) × (f .rt < 16) × (f .left ≡ n)) →
+        (framing ≡ true → starting ≡ false → (f .rt % 16 < 16 * f .left + 10) × (f .left ≤ n)) →
+        cond framing (cond starting (span n - f .rt) (16 * f .left + 10 - f .rt % 16)) 0 < span n
+    go true true g h = let t = g refl refl in omega arith
+    go true false g h = let t = h refl refl in omega arith
+    go false starting g h = omega arith
 
 -- The three facts on the idle count, of any sample: `t` samples to go before it, `t′` after.
 low-after : (counted : Bool) (n idle t t′ : ℕ) → (counted ≡ true → 0 < t′ → suc t′ ≡ t) → (0 < t → idle + t < span n) →

@@ -9,7 +9,8 @@ use borrow.Author.Tests.{eqb-true, eqb-false, eq-eqb, ne-eqb}
 use Rattle.sci.specs.model.Bits.{vote, onesOf}
 use Rattle.sci.specs.model.Framer.{begins, abandons, ends, searched, judged, startBit, dataBit, stopBit, inBit, collected, nextRt, fixed, adjusts, adjusted, framed}
 use Rattle.sci.specs.declared.framer.Framer.{Framer}
-use Rattle.sci.proofs.Frames.{by-cond, Adjusting, adjusting}
+use Rattle.sci.proofs.Adjusting.{Adjusting, adjusting}
+use Rattle.sci.proofs.Frames.{by-cond}
 use Rattle.sci.proofs.Moves.{moving}
 
 pub record Turned (f : Framer) (three x : Bool) (g : Framer) : Type 0 where

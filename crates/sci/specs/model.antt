@@ -7,4 +7,5 @@ pub mod Framer
 pub mod Receiver
 pub mod Account
 pub mod Transmitter
+pub mod Parts
 pub mod Serial

@@ -1,11 +1,8 @@
-// Where the receiver stands in a frame, and what one sample makes of it.
+// Where the receiver stands in a frame: how a frame begins and ends, and what one sample makes of it.
 ghost use mathlib.Core.Path.{_≡_};
-ghost use mathlib.Core.Bool.{cond};
-ghost use Prim.Native.Nat.{_-_};
 ghost use Rattle.sci.specs.model.Control.{bitsOf};
 ghost use Rattle.sci.specs.quick.Plain.{busy, rests, rested};
-ghost use Rattle.sci.specs.model.Framer.{more, searching, begun, begins, abandons, ends, frameOf, searched, noiseAt, judged, heard, startBit, collected, dataBit, stopBit, inBit, fixed, lastBit, earlyFall, lateFall, adjusts, adjusted, framed};
-use crate::bits::digit;
+ghost use Rattle.sci.specs.model.Framer.{more, searching, begun, begins, abandons, ends, frameOf, searched, fixed, lastBit, framed};
 use crate::bits::vote;
 use crate::control::bits_of;
 
@@ -135,137 +132,6 @@ impl Framer {
         if begins { Framer::begun(n) } else { self }
     }
 
-    // RT rt, with so much more noise.
-    fn noise_at(mut self, rt: u8, by: u8) -> Framer
-        ensures { λ r. ⌜ r ≡ noiseAt self rt by ⌝ }
-    {
-        self.rt = rt;
-        self.noise = more(self.noise, by);
-        self
-    }
-
-    fn judged(self, abandoned: bool, ones: u8) -> Framer
-        ensures { λ r. ⌜ r ≡ judged abandoned self ones ⌝ }
-    {
-        if abandoned {
-            Framer::searching()
-        } else {
-            self.noise_at(7, ones)
-        }
-    }
-
-    // Any one at RT8, RT9, RT10 of the start bit is noise.
-    fn heard(mut self, voted: bool, rt: u8, x: bool) -> Framer
-        ensures { λ r. ⌜ r ≡ heard voted self rt x ⌝ }
-    {
-        if voted {
-            self.noise_at(rt, digit(x))
-        } else {
-            self.rt = rt;
-            self
-        }
-    }
-
-    // RT rt of the start bit. Where the vote at RT7 lets it stand, what disagreed is its one, if there is one.
-    fn start_bit(mut self, rt: u8, x: bool) -> Framer
-        ensures { λ r. ⌜ r ≡ startBit self rt x ⌝ }
-    {
-        match rt {
-            3 => {
-                self.rt = rt;
-                self.first = x;
-                self
-            }
-            5 => {
-                self.rt = rt;
-                self.second = x;
-                self
-            }
-            7 => {
-                let v = vote(self.first, self.second, x);
-                self.judged(v.bit, v.disagreed)
-            }
-            16 => {
-                self.rt = rt;
-                self.starting = false;
-                self
-            }
-            _ => self.heard((8 <= rt) & (rt <= 10), rt, x),
-        }
-    }
-
-    // RT rt of a data bit.
-    fn data_bit(mut self, rt: u8, x: bool, m: bool) -> Framer
-        ensures { λ r. ⌜ r ≡ dataBit (bitsOf m) self rt x ⌝ }
-    {
-        match rt {
-            8 => {
-                self.rt = rt;
-                self.first = x;
-                self
-            }
-            9 => {
-                self.rt = rt;
-                self.second = x;
-                self
-            }
-            10 => {
-                let v = vote(self.first, self.second, x);
-                self.rt = rt;
-                self.noise = more(self.noise, v.disagreed);
-                self.shift = collected(v.bit, m, self.shift);
-                self
-            }
-            16 => {
-                self.rt = rt;
-                self.left = steps::one_less(self.left);
-                self.moved = false;
-                self
-            }
-            _ => {
-                self.rt = rt;
-                self
-            }
-        }
-    }
-
-    // RT rt of the stop bit.
-    fn stop_bit(mut self, rt: u8, x: bool) -> Framer
-        ensures { λ r. ⌜ r ≡ stopBit self rt x ⌝ }
-    {
-        match rt {
-            8 => {
-                self.rt = rt;
-                self.first = x;
-                self
-            }
-            9 => {
-                self.rt = rt;
-                self.second = x;
-                self
-            }
-            10 => Framer::searching(),
-            _ => {
-                self.rt = rt;
-                self
-            }
-        }
-    }
-
-    fn in_bit(self, starting: bool, stopping: bool, rt: u8, x: bool, m: bool) -> Framer
-        ensures { λ r. ⌜ r ≡ inBit starting stopping (bitsOf m) self rt x ⌝ }
-    {
-        if starting {
-            self.start_bit(rt, x)
-        } else {
-            if stopping {
-                self.stop_bit(rt, x)
-            } else {
-                self.data_bit(rt, x, m)
-            }
-        }
-    }
-
     // One sample that makes no adjustment. RT16 is followed by RT1 of the next bit.
     // Ruled out: a bit of fifteen samples; a search that goes on only at RT16.
     pub fn fixed(self, three: bool, x: bool, m: bool) -> Framer
@@ -276,44 +142,6 @@ impl Framer {
         } else {
             self.searched(self.begins(three, x), bits_of(m))
         }
-    }
-
-    // Whether a sample is RT11 to RT16 of a data bit, with another data bit after it.
-    fn early_fall(self) -> bool
-        ensures { λ r. ⌜ r ≡ earlyFall self ⌝ }
-    {
-        (11 <= self.rt % 16 + 1) & (1 < self.left)
-    }
-
-    // Whether a sample is RT2 to RT7 of a data bit whose RT1 no adjustment has set.
-    fn late_fall(self) -> bool
-        ensures { λ r. ⌜ r ≡ lateFall self ⌝ }
-    {
-        let rt = self.rt % 16 + 1;
-        (2 <= rt) & (rt <= 7) & (0 < self.left) & !self.moved
-    }
-
-    // Whether a sample makes an adjustment.
-    // Ruled out: one after a zero bit; a second one for a bit.
-    pub fn adjusts(self, three: bool, x: bool, m: bool) -> bool
-        ensures { λ r. ⌜ r ≡ adjusts (bitsOf m) self three x ⌝ }
-    {
-        !x
-            & three
-            & self.framing
-            & !self.starting
-            & last_bit(m, self.shift)
-            & (self.early_fall() | self.late_fall())
-    }
-
-    // It becomes RT1 of the next bit, or of the bit that it is in.
-    fn adjusted(mut self) -> Framer
-        ensures { λ r. ⌜ r ≡ adjusted self ⌝ }
-    {
-        self.left = left_after(self.early_fall(), self.left);
-        self.rt = 1;
-        self.moved = true;
-        self
     }
 
     // One sample.
@@ -330,7 +158,7 @@ impl Framer {
 }
 
 // The figure stops at 255, which no frame's gets to.
-fn more(noise: u8, by: u8) -> u8
+pub(crate) fn more(noise: u8, by: u8) -> u8
     ensures { λ r. ⌜ r ≡ more noise by ⌝ }
 {
     if noise < 255 - by { noise + by } else { 255 }
@@ -345,12 +173,6 @@ fn busy(starting: bool, rt: u8) -> bool
     (at >> (rt % 16)) % 2 == 1
 }
 
-fn left_after(early: bool, left: u8) -> u8
-    ensures { λ r. ⌜ r ≡ cond early (left - 1) left ⌝ }
-{
-    if early { steps::one_less(left) } else { left }
-}
-
 // The last bit that came in, of the bits collected.
 // Ruled out: the lowest bit; bit 8 of a frame of 8 bits.
 pub fn last_bit(m: bool, w: u16) -> bool
@@ -360,16 +182,5 @@ pub fn last_bit(m: bool, w: u16) -> bool
         w / 0x100 % 2 == 1
     } else {
         w / 128 % 2 == 1
-    }
-}
-
-// The bits collected, low bit first, with one more.
-fn collected(bit: bool, m: bool, shift: u16) -> u16
-    ensures { λ r. ⌜ r ≡ collected bit (bitsOf m) shift ⌝ }
-{
-    if bit {
-        if m { shift / 2 + 256 } else { shift / 2 + 128 }
-    } else {
-        shift / 2
     }
 }

@@ -6,7 +6,8 @@ use mathlib.Core.Path.{_≡_}
 use Prim.Native.Nat.{ℕ}
 use Rattle.sci.specs.model.Control.{RE}
 use Rattle.sci.specs.claims.Line.{Op, sample, read, readStatus, delivers, shown, Seen}
-use Rattle.sci.specs.model.Serial.{resetSci, active, due, clocked, withStatus, dataWritten, wroteSccr0, wroteSccr1, sccr0Guarded, sccr1Guarded}
+use Rattle.sci.specs.model.Parts.{withStatus}
+use Rattle.sci.specs.model.Serial.{resetSci, active, due, clocked, dataWritten, wroteSccr0, wroteSccr1, sccr0Guarded, sccr1Guarded}
 use Rattle.sci.specs.declared.receiver.Received.{Received}
 use Rattle.sci.specs.declared.serial.Sci.{Sci}
 

@@ -6,16 +6,11 @@ use Rattle.steps.specs.Bits.{merge}
 use Rattle.sci.specs.model.Flags.{OR, IDLE, RAF, RDRF, TC, TDRE, flag, receiveFlags, transmitFlags}
 use Rattle.sci.specs.model.Status.{has, fall, markSeen, fallSeen}
 use Rattle.sci.specs.model.Control.{SCBR, TIE, TCIE, RIE, ILIE, TE, RE, RWU, sccr0Bits, sccr1Bits, settings}
+use Rattle.sci.specs.model.Parts.{withStatus, withData, withReceiver, withSleep, withPreamble, afterSent, afterReceived}
 use Rattle.sci.specs.model.Framer.{searching}
 use Rattle.sci.specs.model.Receiver.{startState, outcome, received}
 use Rattle.sci.specs.model.Account.{counting}
 use Rattle.sci.specs.model.Transmitter.{runs, level, sent}
-use Rattle.sci.specs.declared.status.Status.{Status}
-use Rattle.sci.specs.declared.receiver.Receiver.{Receiver}
-use Rattle.sci.specs.declared.receiver.Received.{Received}
-use Rattle.sci.specs.declared.transmitter.Transmitter.{Transmitter}
-use Rattle.sci.specs.declared.transmitter.Sent.{Sent}
-use Rattle.sci.specs.declared.account.Account.{Account}
 use Rattle.sci.specs.declared.serial.Sci.{Sci}
 
 -- Values after a reset: SCCR0 0004, SCCR1 0000, SCSR 0180, SCDR 0 on both sides, its noise figure 0; nothing seen, no frame counted.
@@ -50,35 +45,11 @@ active s = TE (s .sccr1) || RE (s .sccr1) || runs (s .transmitter)
 abbrev pub due : Sci → Bool
 due s = not (eqb (2 * SCBR (s .sccr0)) 0) && leb (2 * SCBR (s .sccr0)) (s .prescaler + 1)
 
-abbrev pub afterReceived : Sci → Received → Account → Sci
-afterReceived s r account =
-    record {
-      sccr0 = s .sccr0;
-      sccr1 = s .sccr1;
-      status = r .status;
-      prescaler = s .prescaler;
-      receiver = r .receiver;
-      transmitter = s .transmitter;
-      account = account;
-    }
-
 abbrev pub heard : Bool → Sci → Bool → Sci
 heard true s x =
     afterReceived s (received (s .receiver) (s .status) (s .sccr1) x)
     (counting (s .account) (outcome (s .receiver) (s .status) (s .sccr1) x))
 heard false s x = s
-
-abbrev pub afterSent : Sci → Sent → Sci
-afterSent s t =
-    record {
-      sccr0 = s .sccr0;
-      sccr1 = s .sccr1;
-      status = t .status;
-      prescaler = 0;
-      receiver = s .receiver;
-      transmitter = t .transmitter;
-      account = s .account;
-    }
 
 -- On a sample, transmitter before receiver.
 unfoldable pub sampled : Sci → Bool → Sci
@@ -117,18 +88,6 @@ scsrWord s = s .status .flags .bits % 2 ^ 9
 abbrev pub scdrWord : Sci → ℕ
 scdrWord s = s .receiver .scdr % 2 ^ 9
 
-abbrev pub withStatus : Sci → Status → Sci
-withStatus s f =
-    record {
-      sccr0 = s .sccr0;
-      sccr1 = s .sccr1;
-      status = f;
-      prescaler = s .prescaler;
-      receiver = s .receiver;
-      transmitter = s .transmitter;
-      account = s .account;
-    }
-
 -- A read of either byte of SCSR.
 abbrev pub statusRead : Sci → Sci
 statusRead s = withStatus s (markSeen (s .status))
@@ -136,24 +95,6 @@ statusRead s = withStatus s (markSeen (s .status))
 -- A read of SCDR's low byte or word: the receive flags that are set and seen fall.
 abbrev pub dataRead : Sci → Sci
 dataRead s = withStatus s (fallSeen (s .status) receiveFlags)
-
-abbrev pub withData : Sci → ℕ → Sci
-withData s w =
-    record {
-      sccr0 = s .sccr0;
-      sccr1 = s .sccr1;
-      status = s .status;
-      prescaler = s .prescaler;
-      receiver = s .receiver;
-      transmitter =
-          record {
-            scdr = w;
-            preamble = s .transmitter .preamble;
-            shift = s .transmitter .shift;
-            left = s .transmitter .left;
-          };
-      account = s .account;
-    }
 
 -- A low-byte write keeps bit 8. TDRE and TC fall if seen.
 abbrev pub loaded : Sci → ℕ → Bool → Sci
@@ -185,39 +126,10 @@ wroteSccr0 s v upper lower =
     let new : ℕ = sccr0Bits (merge (s .sccr0) v upper lower) in
     sccr0Set (eqb new (s .sccr0)) s new
 
-abbrev pub withReceiver : Sci → Receiver → Status → Sci
-withReceiver s r f =
-    record {
-      sccr0 = s .sccr0;
-      sccr1 = s .sccr1;
-      status = f;
-      prescaler = s .prescaler;
-      receiver = r;
-      transmitter = s .transmitter;
-      account = s .account;
-    }
-
 -- RE clear puts the receiver in its start state, RAF 0; the other flags stay.
 abbrev pub stopped : Bool → Sci → Sci
 stopped true s = s
 stopped false s = withReceiver s (startState (s .receiver)) (fall (s .status) RAF)
-
-abbrev pub withSleep : Receiver → Bool → Receiver
-withSleep r asleep =
-    record {
-      framer = r .framer;
-      last1 = r .last1;
-      last2 = r .last2;
-      last3 = r .last3;
-      idle = r .idle;
-      since = r .since;
-      asleep = asleep;
-      scdr = r .scdr;
-      noise = r .noise;
-    }
-
-abbrev pub withPreamble : Transmitter → Bool → Transmitter
-withPreamble t preamble = record { scdr = t .scdr; preamble = preamble; shift = t .shift; left = t .left }
 
 -- TE rising queues a preamble; TE falling forgets it.
 abbrev pub withSccr1 : Sci → ℕ → Sci

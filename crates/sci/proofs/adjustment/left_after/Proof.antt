@@ -1,6 +1,6 @@
 use borrow.Author.Needs.{needs}
-use Rattle.sci.proofs.framer.left_after.Statement.{statement}
-use Rattle.sci.proofs.framer.left_after.Tie as tie
+use Rattle.sci.proofs.adjustment.left_after.Statement.{statement}
+use Rattle.sci.proofs.adjustment.left_after.Tie as tie
 
 returns : tie.Need-returns
 returns c = rw (c .one-less .ensures, c .before .if1 .taken)

@@ -1,6 +1,6 @@
 use borrow.Author.Needs.{needs}
-use Rattle.sci.proofs.framer.collected.Statement.{statement}
-use Rattle.sci.proofs.framer.collected.Tie as tie
+use Rattle.sci.proofs.in_bit.collected.Statement.{statement}
+use Rattle.sci.proofs.in_bit.collected.Tie as tie
 
 returns : tie.Need-returns
 returns c = rw (c .if2 .taken, c .before .if1 .taken)
