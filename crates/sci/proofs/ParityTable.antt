@@ -8,7 +8,6 @@ use native.Mathlib.Omega.{arith}
 use lib.Count.{ones, ones-cat}
 use lib.Dec.{eqb}
 use lib.ListN.{getD}
-use borrow.Author.Tests.{eqb-true, eqb-false, eq-eqb, ne-eqb}
 use Rattle.sci.specs.model.Bits.{odd}
 
 -- n entries by a rule, from place i on.
@@ -21,21 +20,14 @@ entry-at rule i zero k h = absurd (omega arith)
 entry-at rule i (suc n) zero h = rw add-zero
 entry-at rule i (suc n) (suc k) h = entry-at rule (suc i) n k (omega arith) ∙ rw (suc-add, add-suc)
 
--- The characters 0 and 1.
-unfoldable pub character : ℕ → ℕ
+-- The rule: 1 for an odd number of ones, else 0.
+unfoldable pub parityOf : ℕ → ℕ
 unfolding ones
-character k = 48 + ones k % 2
+parityOf k = ones k % 2
 
-is-one : (d : ℕ) → eqb (48 + d) 49 ≡ eqb d 1
-is-one d = go (eqb d 1) refl
-  where
-    go : (b : Bool) → eqb d 1 ≡ b → eqb (48 + d) 49 ≡ b
-    go true e = eq-eqb (48 + d) 49 (omega (arith, eqb-true d 1 e))
-    go false e = ne-eqb (48 + d) 49 (λ h. eqb-false d 1 e (omega arith))
-
-pub by-table : (n k : ℕ) → k < n → eqb (getD (entries character 0 n) k 0) 49 ≡ odd k
-unfolding character
-by-table n k h = rw (entry-at character 0 n k h, zero-add) (is-one (ones k % 2))
+pub by-table : (n k : ℕ) → k < n → eqb (getD (entries parityOf 0 n) k 0) 1 ≡ odd k
+unfolding parityOf
+by-table n k h = rw (entry-at parityOf 0 n k h, zero-add)
 
 -- A sum of two digits is odd where just one of them is.
 one-of-two : (x y : ℕ) → x < 2 → y < 2 → eqb ((x + y) % 2) 1 ≡ not (Bool·beq (eqb y 1) (eqb x 1))
