@@ -9,7 +9,7 @@ use Rattle.sci.specs.model.Control.{frameSamples}
 use Rattle.sci.specs.model.Transmitter.{runs, free}
 use Rattle.sci.specs.model.Serial.{txdDriven, txd}
 use Rattle.sci.specs.claims.Levels.{endSample}
-use Rattle.sci.specs.claims.Link.{dataBits, Delivered}
+use Rattle.sci.specs.claims.Link.{dataBits, InScdr}
 use Rattle.sci.specs.claims.Wire.{Wired, steps, step, hearing, Matched}
 use Rattle.sci.specs.claims.Wire as wire
 use Rattle.sci.specs.declared.serial.Sci.{Sci}
@@ -100,7 +100,7 @@ module _ (f : Frame) (q : Two) (d : Sends f q) where
   received r =
       subst
       (λ (w : Wired).
-      Delivered (dataBits (q .sender .sci .sccr1) (q .sender .sci .transmitter .scdr) % 2 ^ width q) (hearing (w .receiver)))
+      InScdr (dataBits (q .sender .sci .sccr1) (q .sender .sci .transmitter .scdr) % 2 ^ width q) (hearing (w .receiver)))
       at-ended r
 
 pub waits : Waits

@@ -18,7 +18,7 @@ use Rattle.sci.specs.claims.Levels.{lowBits, value, frameLevels, endSample}
 use Rattle.sci.specs.claims.History as half
 use Rattle.sci.specs.claims.History.{sampling}
 use Rattle.sci.specs.claims.Overrun.{Mark, wordCame, sampleMarks}
-use Rattle.sci.specs.claims.Link.{Delivered}
+use Rattle.sci.specs.claims.Link.{InScdr}
 use Rattle.sci.specs.claims.Wire as wire
 use Rattle.sci.specs.declared.status.Status.{Status}
 use Rattle.sci.specs.declared.framer.Framer.{Framer}
@@ -59,7 +59,7 @@ module _ (c w P v : ℕ) (near : v < P) (q : ℕ) where
 
   -- The frame's last sample.
   pub record Came (ms : List Mark) (s : Sci) : Type 0 where
-    pub delivered : Delivered (value bits) (wire.hearing s)
+    pub delivered : InScdr (value bits) (wire.hearing s)
     pub idle : isSet 4 (s .status) ≡ false
     pub noise : s .receiver .noise ≡ 0
     pub marks : wordMarks ms ≡ wordCame (value bits) ∷ []

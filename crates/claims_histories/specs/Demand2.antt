@@ -12,7 +12,7 @@ use Rattle.sci.specs.model.Transmitter.{beginsFrame}
 use Rattle.sci.specs.model.Serial.{due, txdDriven, txd}
 use Rattle.sci.specs.claims.Levels.{endSample}
 use Rattle.sci.specs.claims.Line.{Op}
-use Rattle.sci.specs.claims.Link.{dataBits, Delivered}
+use Rattle.sci.specs.claims.Link.{dataBits, InScdr}
 use Rattle.sci.specs.claims.BackToBack.{readsBoth}
 use Rattle.sci.specs.claims.Wire.{Wired, Matched, hearing}
 use Rattle.qsm.specs.model.State.{resetModule}
@@ -146,7 +146,7 @@ pub record Sends (f : Frame) (q : Two) : Type 0 where
 -- The data bits sent are in SCDR, with RDRF and no error flag.
 abbrev pub Received : Frame → Two → Type 0
 Received f q =
-    Delivered (dataBits (q .sender .sci .sccr1) (q .sender .sci .transmitter .scdr) % 2 ^ width q)
+    InScdr (dataBits (q .sender .sci .sccr1) (q .sender .sci .transmitter .scdr) % 2 ^ width q)
     (hearing (ended f q .receiver .sci))
 
 -- While the line rests at one a receiver that is ready stays so, whatever is read and written.

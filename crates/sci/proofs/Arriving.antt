@@ -13,7 +13,7 @@ use Rattle.sci.specs.model.Bits.{parityBit}
 use Rattle.sci.specs.model.Framer.{searching, ends, frameOf, fixed, framed, stopBit}
 use Rattle.sci.specs.model.Receiver.{three, full, receiverAfter, received}
 use Rattle.sci.specs.claims.Levels.{value, frameLevels, endSample}
-use Rattle.sci.specs.claims.Link.{Delivered, NoError}
+use Rattle.sci.specs.claims.Link.{InScdr, NoError}
 use Rattle.sci.specs.declared.framer.Framer.{Framer}
 use Rattle.sci.specs.declared.status.Status.{Status}
 use Rattle.sci.specs.declared.receiver.Received.{Received}
@@ -67,7 +67,7 @@ module _ (c g : ℕ) (bits : List Bool) (sized : bitsOf (M c) ≡ length bits) (
           or = flags 3 refl (and-false (idles (p .receiver) (p .status) c x)) ∙ ap (λ (b : Bool). b || false) (h .clean .or);
         }
 
-    pub delivered : Delivered (value bits) p′
+    pub delivered : InScdr (value bits) p′
     delivered =
         record {
           word =

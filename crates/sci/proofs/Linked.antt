@@ -16,7 +16,7 @@ use Rattle.sci.specs.model.Framer.{ends, frameOf}
 use Rattle.sci.specs.model.Transmitter.{dataSent, beginsFrame, sent}
 use Rattle.sci.specs.claims.Levels.{lowBits, value, frameLevels, endSample}
 use Rattle.sci.specs.claims.Line.{Op, sample, read, act, acts}
-use Rattle.sci.specs.claims.Link.{FramesHeard, Around, sentAround, shown, FramesShown, FramesBegin, ParityRight, dataBits, samplesOf, NoError, Ready, Delivered, Linked}
+use Rattle.sci.specs.claims.Link.{FramesHeard, Around, sentAround, shown, FramesShown, FramesBegin, ParityRight, dataBits, samplesOf, NoError, Ready, InScdr, Linked}
 use Rattle.sci.specs.declared.framer.Framer.{Framer}
 use Rattle.sci.specs.declared.status.Status.{Status}
 use Rattle.sci.specs.declared.receiver.Received.{Received}
@@ -203,10 +203,10 @@ module _ (t : Transmitter) (s : Status) (c : ℕ) (p : Received) (d : ℕ) (begi
     even =
         rw (← same-PE c d same, ← same-PT c d same, value-low n (dataBits c (t .scdr))) (parity-link c (t .scdr))
 
-    arrives : Delivered (dataBits c (t .scdr) % 2 ^ n) (act d (sample x) (acts d os p))
+    arrives : InScdr (dataBits c (t .scdr) % 2 ^ n) (act d (sample x) (acts d os p))
     unfolding act
     arrives =
-        subst (λ (v : ℕ). Delivered v (act d (sample x) (acts d os p))) (value-low n (dataBits c (t .scdr)))
+        subst (λ (v : ℕ). InScdr v (act d (sample x) (acts d os p))) (value-low n (dataBits c (t .scdr)))
         (delivered d 0 bits sized (acts d os p) stands x one even)
 
     no-idle : has (act d (sample x) (acts d os p) .status) IDLE ≡ false

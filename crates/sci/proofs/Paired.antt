@@ -11,7 +11,7 @@ use Rattle.sci.specs.model.Control.{PT, PE, M, bitsOf}
 use Rattle.sci.specs.model.Bits.{parityBit}
 use Rattle.sci.specs.model.Serial.{clocked, txd}
 use Rattle.sci.specs.claims.Levels.{lowBits, value, frameLevels, endSample}
-use Rattle.sci.specs.claims.Link.{Delivered}
+use Rattle.sci.specs.claims.Link.{InScdr}
 use Rattle.sci.specs.claims.Wire.{Wired, Access, readStatus, readData, writeData, writeControl, accessed, Same, Unchanged, Step, clock, atSender, atReceiver, step, steps, clocksIn, readsOf, hearing}
 use Rattle.sci.proofs.Sending.{shows, low-length}
 use Rattle.sci.proofs.Stages.{Stage, waiting, free, stages}
@@ -97,7 +97,7 @@ module _ (c g w P v : ℕ) (near : v < P) where
 
   -- The last sample.
   pub record Ended (q : Wired) : Type 0 where
-    pub word : Delivered (value bits) (hearing (clocked (q .receiver) (txd (q .sender))))
+    pub word : InScdr (value bits) (hearing (clocked (q .receiver) (txd (q .sender))))
     pub rested : Rested waiting (hearing (clocked (q .receiver) (txd (q .sender))))
 
   pub ends-well : (st : Stage) (q : Wired) → Last st q → st ≡ free → PE c && parityBit (PT c) (value bits) ≡ false → Ended q

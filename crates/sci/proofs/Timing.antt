@@ -12,7 +12,7 @@ use Rattle.sci.specs.model.Receiver.{received}
 use Rattle.sci.specs.model.Transmitter.{sent}
 use Rattle.sci.specs.model.Serial.{sampled, counted, clocked}
 use Rattle.sci.specs.claims.Levels.{value, endSample}
-use Rattle.sci.specs.claims.Link.{Delivered}
+use Rattle.sci.specs.claims.Link.{InScdr}
 use Rattle.sci.specs.claims.Wire.{Access, accessed, Same, hearing}
 use Rattle.sci.specs.declared.receiver.Receiver.{Receiver}
 use Rattle.sci.specs.declared.receiver.Received.{Received}
@@ -108,9 +108,9 @@ module _ (c g : ℕ) (bits : List Bool) (sized : bitsOf (M c) ≡ length bits) (
     even-now : PE (s .sccr1) && parityBit (PT (s .sccr1)) (value bits) ≡ false
     even-now = rw (same-PE (s .sccr1) c (h .control), same-PT (s .sccr1) c (h .control)) even
 
-    pub receiver-ends : Delivered (value bits) (hearing (clocked s x))
+    pub receiver-ends : InScdr (value bits) (hearing (clocked s x))
     receiver-ends =
-        subst (λ (r : Received). Delivered (value bits) r) (sym hears)
+        subst (λ (r : Received). InScdr (value bits) r) (sym hears)
         (delivered (s .sccr1) g bits (same-n ∙ sized) told stands x one even-now)
 
     pub receiver-rests : Rested waiting (hearing (clocked s x))

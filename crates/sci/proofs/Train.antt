@@ -12,7 +12,7 @@ use Rattle.sci.specs.model.Control.{PT, PE, M, bitsOf, frameSamples, set
 use Rattle.sci.specs.model.Bits.{parityBit}
 use Rattle.sci.specs.claims.Levels.{lowBits, value, frameLevels, endSample}
 use Rattle.sci.specs.claims.Line.{Op, sample, read, act, acts}
-use Rattle.sci.specs.claims.Link.{sentAround, shown, dataBits, samplesOf, Delivered}
+use Rattle.sci.specs.claims.Link.{sentAround, shown, dataBits, samplesOf, InScdr}
 use Rattle.sci.specs.claims.BackToBack.{Turn, sentAll, levelsOf, samplesIn, Begins, Sends, readsData, readsBoth, Attended, WordForWord, BackToBack}
 use Rattle.sci.specs.declared.receiver.Received.{Received}
 use Rattle.sci.specs.declared.transmitter.Transmitter.{Transmitter}
@@ -61,7 +61,7 @@ both (read false scdr ∷ os) h = both os h
 
 -- One turn: g ones, then the frame of these bits, then the rest of the line.
 record Turned (d : ℕ) (bits rest more : List Bool) (p : Received) : Type 0 where
-  word : Delivered (value bits) p
+  word : InScdr (value bits) p
   rested : Rested waiting p
   agree : (j : ℕ) → j < length more → getD more j true ≡ getD (replicate 6 true ++ rest) j true
 
@@ -174,7 +174,7 @@ train d (u ∷ us) t p r s h a =
     let t′ : Transmitter = sentAll (u .later) (sentAround (u .begin) t) in
     let z : Turned d (bits d u t (s .0)) (levelsOf us t′) (samplesIn us) (act d (sample (u .last)) (acts d (u .ops) p)) =
     one-turn d u t (s .0) 6 waiting p (levelsOf us t′) (samplesIn us) r (both (u .ops) (h .0 .reads)) (omega (arith, h .0 .spaced)) a in (
-      subst (λ (v : ℕ). Delivered v (act d (sample (u .last)) (acts d (u .ops) p))) (word-sent d u t (s .0)) (z .word),
+      subst (λ (v : ℕ). InScdr v (act d (sample (u .last)) (acts d (u .ops) p))) (word-sent d u t (s .0)) (z .word),
       train d us t′ (act d (sample (u .last)) (acts d (u .ops) p)) (z .rested) (s .1) (h .1) (z .agree),
     )
 
@@ -188,6 +188,6 @@ back-to-back d u us t p s r m h e =
     let z : Turned d (bits d u t (s .0)) (levelsOf us t′) (samplesIn us) (act d (sample (u .last)) (acts d (u .ops) p)) =
     one-turn d u t (s .0) 0 free p (levelsOf us t′) (samplesIn us) q (stages-free (u .ops)) (omega (arith, m))
     (λ j l. ap (λ (v : List Bool). getD v j true) e ∙ getD-take (length xs) ys j true l) in (
-      subst (λ (v : ℕ). Delivered v (act d (sample (u .last)) (acts d (u .ops) p))) (word-sent d u t (s .0)) (z .word),
+      subst (λ (v : ℕ). InScdr v (act d (sample (u .last)) (acts d (u .ops) p))) (word-sent d u t (s .0)) (z .word),
       train d us t′ (act d (sample (u .last)) (acts d (u .ops) p)) (z .rested) (s .1) h (z .agree),
     )

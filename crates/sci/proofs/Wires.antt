@@ -10,7 +10,7 @@ use Rattle.sci.specs.model.Bits.{parityBit}
 use Rattle.sci.specs.model.Serial.{clocked, txd}
 use Rattle.sci.specs.claims.Levels.{lowBits, value, endSample}
 use Rattle.sci.specs.claims.Line.{Op}
-use Rattle.sci.specs.claims.Link.{dataBits, Delivered}
+use Rattle.sci.specs.claims.Link.{dataBits, InScdr}
 use Rattle.sci.specs.claims.Wire.{Wired, Unchanged, Step, clock, step, steps, readsOf, hearing, Matched, Rests, Begins, Frame, begun, ended, period, width, Sends, Received, Arrives, Waits, Word, AllSent, AllRead, AllReceived, ArriveInTurn}
 use Rattle.sci.specs.declared.serial.Sci.{Sci}
 use Rattle.sci.proofs.Sending.{value-low}
@@ -124,7 +124,7 @@ module _ (st : Stage) (q : Wired) (f : Frame) (d : Sends f q) (m : Meets st (beg
 
     arrived : Received f q
     unfolding step
-    arrived = subst (λ (x : ℕ). Delivered x (hearing (ended f q .receiver))) word (all-well .word)
+    arrived = subst (λ (x : ℕ). InScdr x (hearing (ended f q .receiver))) word (all-well .word)
 
     again : Meets waiting (ended f q)
     unfolding step

@@ -8,7 +8,7 @@ use Rattle.sci.specs.model.Control.{M, bitsOf, frameSamples, settings}
 use Rattle.sci.specs.model.Transmitter.{beginsFrame}
 use Rattle.sci.specs.claims.Levels.{endSample}
 use Rattle.sci.specs.claims.Line.{Op, sample, read, act, acts}
-use Rattle.sci.specs.claims.Link.{Around, sentAround, shown, dataBits, samplesOf, Ready, Delivered}
+use Rattle.sci.specs.claims.Link.{Around, sentAround, shown, dataBits, samplesOf, Ready, InScdr}
 use Rattle.sci.specs.declared.transmitter.Transmitter.{Transmitter}
 use Rattle.sci.specs.declared.receiver.Received.{Received}
 
@@ -70,7 +70,7 @@ Attended n (u ∷ us) = Attends n u × Attended n us
 unfoldable pub WordForWord : ℕ → List Turn → Received → Type 0
 WordForWord sccr1 [] p = Unit {0}
 WordForWord sccr1 (u ∷ us) p =
-    Delivered (dataBits (u .begin .sccr1) (u .begin .scdr) % 2 ^ bitsOf (M sccr1))
+    InScdr (dataBits (u .begin .sccr1) (u .begin .scdr) % 2 ^ bitsOf (M sccr1))
     (act sccr1 (sample (u .last)) (acts sccr1 (u .ops) p))
     × WordForWord sccr1 us (act sccr1 (sample (u .last)) (acts sccr1 (u .ops) p))
 

@@ -1,5 +1,5 @@
--- Demand 2, as one record: a frame our transmitter sends is received as the data bits sent, with no error flag, by an awake receiver of the
--- same rate and settings that searches after three ones with no receive flag set, neither of them reset or reconfigured.
+-- Demand 2 of the serial half, in one record: what a transmitter of this model puts on the line, a receiver of this model takes off it, word
+-- for word and clean, if both are set alike and the receiver is ready for it. Of modules and their events: claims_histories.
 use Rattle.sci.specs.claims.Link.{FramesHeard, FramesBegin, FramesShown, ParityRight, Linked}
 use Rattle.sci.specs.claims.BackToBack.{BackToBack}
 use Rattle.sci.specs.claims.Wire.{Wired, Frame, begun, Matched, Sends, Arrives, Waits, ArriveInTurn, FreeAtOne, StopBitRests, FrameDrives}

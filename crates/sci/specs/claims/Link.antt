@@ -1,4 +1,4 @@
--- Demand 2: a frame that the transmitter sends is received as the data bits sent, with no error flag.
+-- Demand 2, sample by sample: the frame that a transmitter makes of its data register is the word that a ready receiver then has in SCDR.
 use mathlib.Core.Bool.{Bool, true, false}
 use mathlib.Core.List.{List, [], _∷_, _++_}
 use mathlib.Core.Path.{_≡_}
@@ -89,8 +89,8 @@ pub record Ready (p : Received) : Type 0 where
   pub idle : has (p .status) IDLE ≡ false
   pub errors : NoError (p .status)
 
--- The word is in SCDR, with no error flag.
-pub record Delivered (w : ℕ) (p : Received) : Type 0 where
+-- The word is in SCDR and waits there, RDRF set, with no error flag.
+pub record InScdr (w : ℕ) (p : Received) : Type 0 where
   pub word : p .receiver .scdr ≡ w
   pub rdrf : has (p .status) RDRF ≡ true
   pub errors : NoError (p .status)
@@ -103,7 +103,7 @@ pub record Link (t : Transmitter) (s : Status) (sccr1 : ℕ) (p : Received) (scc
   -- At it the data bits sent are received.
   pub last : (later : List Around) (os : List Op) (x : Bool) → length later ≡ endSample (bitsOf (M sccr1)) →
       samplesOf os ++ (x ∷ []) ≡ shown later (sent t s sccr1 .transmitter) →
-      Delivered (dataBits sccr1 (t .scdr) % 2 ^ bitsOf (M sccr1)) (act sccr1′ (sample x) (acts sccr1′ os p))
+      InScdr (dataBits sccr1 (t .scdr) % 2 ^ bitsOf (M sccr1)) (act sccr1′ (sample x) (acts sccr1′ os p))
   -- IDLE doesn't rise.
   pub idle : (later : List Around) (os : List Op) (x : Bool) → length later ≡ endSample (bitsOf (M sccr1)) →
       samplesOf os ++ (x ∷ []) ≡ shown later (sent t s sccr1 .transmitter) →

@@ -13,7 +13,7 @@ use Rattle.sci.specs.model.Serial.{resetSci, due, clocked, statusRead, d
 use Rattle.sci.specs.claims.Levels.{endSample}
 use Rattle.sci.specs.claims.Line.{Op, read}
 use Rattle.sci.specs.claims.History as history
-use Rattle.sci.specs.claims.Link.{dataBits, NoError, Delivered}
+use Rattle.sci.specs.claims.Link.{dataBits, NoError, InScdr}
 use Rattle.sci.specs.claims.BackToBack.{readsBoth}
 use Rattle.sci.specs.declared.receiver.Received.{Received as Heard}
 use Rattle.sci.specs.declared.serial.Sci.{Sci}
@@ -134,7 +134,7 @@ pub record Sends (f : Frame) (q : Wired) : Type 0 where
 -- The data bits sent are in SCDR, with no error flag.
 abbrev pub Received : Frame → Wired → Type 0
 Received f q =
-    Delivered (dataBits (q .sender .sccr1) (q .sender .transmitter .scdr) % 2 ^ width q) (hearing (ended f q .receiver))
+    InScdr (dataBits (q .sender .sccr1) (q .sender .transmitter .scdr) % 2 ^ width q) (hearing (ended f q .receiver))
 
 -- Whatever the counts of the two prescalers. The receiver is ready when the frame has begun: the level in that clock is still the one
 -- before the start bit, and may be the last of its three ones.
