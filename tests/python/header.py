@@ -11,7 +11,7 @@ from pathlib import Path
 from typing import Any
 
 import qsm
-import qsm_c
+from qsm import library as qsm_c
 
 ROOT = Path(__file__).resolve().parents[2]
 TEXT = (ROOT / "include" / "qsm.h").read_text()

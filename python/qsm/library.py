@@ -1,4 +1,4 @@
-"""The structs and functions of include/qsm.h, for qsm.py: use that. Nothing here checks a number; qsm.py does before it calls."""
+"""The structs and functions of include/qsm.h, for the package qsm: use that. Nothing here checks a number; the package does before it calls."""
 
 from __future__ import annotations
 
@@ -153,12 +153,12 @@ FUNCTIONS: dict[str, tuple[Any, list[Any]]] = {
 
 
 def _path() -> Path:
-    """The shared object: QSM_LIBRARY where it is set, else one beside this file, else the one that python/build makes."""
+    """The shared object: QSM_LIBRARY where it is set, else one beside this file, as installed, else the one that python/build makes."""
     if named := os.environ.get("QSM_LIBRARY"):
         return Path(named)
     here = Path(__file__).resolve().parent
     beside = here / "libqsm.so"
-    return beside if beside.exists() else here.parent / "target" / "python" / "libqsm.so"
+    return beside if beside.exists() else here.parents[1] / "target" / "python" / "libqsm.so"
 
 
 def load() -> ctypes.CDLL:
@@ -176,4 +176,4 @@ def load() -> ctypes.CDLL:
     return library
 
 
-library = load()
+functions = load()

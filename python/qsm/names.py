@@ -1,4 +1,4 @@
-"""Names of include/qsm.h for qsm.py, an answer, and the checks of arguments."""
+"""Names of include/qsm.h, an answer, and the checks of arguments."""
 
 from __future__ import annotations
 

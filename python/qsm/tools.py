@@ -1,4 +1,4 @@
-"""Tools of include/qsm.h, for qsm.py: logs compared and judged, lines gathered, editions kept, traces indexed."""
+"""Tools of include/qsm.h: logs compared and judged, lines gathered, editions kept, traces indexed."""
 
 from __future__ import annotations
 
@@ -6,8 +6,8 @@ import ctypes
 from ctypes import Structure
 from typing import NamedTuple, Optional, Union
 
-import qsm_c
-from qsm_names import Bytes, Cause, Field, Refusal, bits, number, octets
+from . import library as c_library
+from .names import Bytes, Cause, Field, Refusal, bits, number, octets
 
 
 class Compared(NamedTuple):
@@ -27,7 +27,7 @@ def compare(first: Bytes, second: Bytes, room: Optional[int] = None) -> Compared
     enough = 2 * (min(len(a), len(b)) // 10)
     numbers = enough if room is None else min(enough, bits("room", room, 64))
     list_ = (ctypes.c_uint64 * max(numbers, 1))()
-    c = qsm_c.library.qsm_compare(a, len(a), b, len(b), list_, numbers)
+    c = c_library.functions.qsm_compare(a, len(a), b, len(b), list_, numbers)
     differing = [(list_[2 * k], Field(list_[2 * k + 1])) for k in range(c.count)]
     return Compared(differing, c.second, c.start, c.length, Refusal(c.refusal))
 
@@ -48,7 +48,7 @@ class Judgement(NamedTuple):
 def judge(trace: Bytes, log: Bytes) -> Judgement:
     """Judges a log of a trace beside a module after reset."""
     a, b = octets(trace), octets(log)
-    c = qsm_c.library.qsm_judge(a, len(a), b, len(b))
+    c = c_library.functions.qsm_judge(a, len(a), b, len(b))
     return Judgement(c.number, Field(c.field), Refusal(c.stop))
 
 
@@ -90,11 +90,11 @@ _LINES_DROP = 2
 def lines(trace: Bytes, period: int) -> Gathered:
     """The lines of a trace that is replayed with a poll after every so many clocks, from 1 to 65,535."""
     given, clocks = octets(trace), number("period", period, 1, 65535)
-    state = qsm_c.library.qsm_lines_new()
+    state = c_library.functions.qsm_lines_new()
     room = ctypes.create_string_buffer(_LINES_ROOM)
     gathered: list[Union[Line, Dropped]] = []
     while True:
-        c = qsm_c.library.qsm_lines_next(state, given, len(given), clocks, room, _LINES_ROOM)
+        c = c_library.functions.qsm_lines_next(state, given, len(given), clocks, room, _LINES_ROOM)
         state = c.state
         noise = Noise(state.noise.last.total, state.noise.last.worst)
         if c.kind == _LINES_LINE:
@@ -145,12 +145,12 @@ class Editions:
     def add(self, edition: Edition) -> Refusal:
         """Adds an edition above all that were added before."""
         rest = [bits(name, value, 16) for name, value in zip(edition._fields[1:], edition[1:])]
-        c = qsm_c.Edition(_edition(edition.number), *rest)
-        return self._changed(qsm_c.library.qsm_editions_add(self._buffer, self._size, self._used, c))
+        c = c_library.Edition(_edition(edition.number), *rest)
+        return self._changed(c_library.functions.qsm_editions_add(self._buffer, self._size, self._used, c))
 
     def withdraw(self, edition: int) -> Refusal:
         """Withdraws one."""
-        return self._changed(qsm_c.library.qsm_editions_withdraw(self._buffer, self._size, self._used, _edition(edition)))
+        return self._changed(c_library.functions.qsm_editions_withdraw(self._buffer, self._size, self._used, _edition(edition)))
 
     def _given(self, c: Structure) -> Union[Edition, Refusal]:
         e = c.edition
@@ -158,11 +158,11 @@ class Editions:
 
     def get(self, edition: int) -> Union[Edition, Refusal]:
         """The edition of a number, if it is not withdrawn."""
-        return self._given(qsm_c.library.qsm_editions_get(self._buffer, self._size, self._used, _edition(edition)))
+        return self._given(c_library.functions.qsm_editions_get(self._buffer, self._size, self._used, _edition(edition)))
 
     def newest(self) -> Union[Edition, Refusal]:
         """The largest that is not withdrawn."""
-        return self._given(qsm_c.library.qsm_editions_newest(self._buffer, self._size, self._used))
+        return self._given(c_library.functions.qsm_editions_newest(self._buffer, self._size, self._used))
 
 
 class Mark(NamedTuple):
@@ -215,15 +215,15 @@ class Index:
     def build(self, trace: Bytes) -> Indexed:
         """Marks a trace afresh."""
         given = octets(trace)
-        return self._indexed(qsm_c.library.qsm_index_build(given, len(given), self._list, self._room))
+        return self._indexed(c_library.functions.qsm_index_build(given, len(given), self._list, self._room))
 
     def extend(self, trace: Bytes) -> Indexed:
         """Goes on from the last mark, in a trace of which the one marked is a beginning."""
         given = octets(trace)
-        return self._indexed(qsm_c.library.qsm_index_extend(given, len(given), self._list, self._room, self._count))
+        return self._indexed(c_library.functions.qsm_index_extend(given, len(given), self._list, self._room, self._count))
 
     def find(self, trace: Bytes, record: int) -> Found:
         """Finds a record, numbered from 0, by marks of the trace or of a beginning of it; by others the answer has no meaning."""
         given, wanted = octets(trace), bits("record", record, 64)
-        c = qsm_c.library.qsm_index_find(given, len(given), self._list, self._room, self._count, wanted)
+        c = c_library.functions.qsm_index_find(given, len(given), self._list, self._room, self._count, wanted)
         return Found(c.place, c.resets, c.walked, Refusal(c.refusal))

@@ -1,4 +1,4 @@
-"""Plans of the queue, for qsm.py."""
+"""Plans of the queue."""
 
 from __future__ import annotations
 
@@ -6,8 +6,8 @@ from collections.abc import Sequence
 from ctypes import Structure
 from typing import NamedTuple, Optional
 
-import qsm_c
-from qsm_names import Refusal, bits, number
+from . import library as c_library
+from .names import Refusal, bits, number
 
 
 class SetPoint(NamedTuple):
@@ -40,7 +40,7 @@ class Put(NamedTuple):
 
 def _points(points: Sequence[SetPoint]) -> Structure:
     number("the number of set-points", len(points), 1, 16)
-    c = qsm_c.SetPoints(len(points))
+    c = c_library.SetPoints(len(points))
     for k, point in enumerate(points):
         c.selects[k] = bits("select", point.select, 4)
         c.bits[k] = number("bits", point.bits, 8, 16)
@@ -51,7 +51,7 @@ def _points(points: Sequence[SetPoint]) -> Structure:
 def _plan(plan: Plan) -> Structure:
     number("the number of entries", len(plan.entries), 0, 16)
     registers = [bits(name, value, 16) for name, value in zip(plan._fields[1:4], plan[1:4])]
-    c = qsm_c.QueuePlan(bits("clock", plan.clock, 64), *registers, len(plan.entries), bits("first", plan.first, 8), bits("last", plan.last, 8))
+    c = c_library.QueuePlan(bits("clock", plan.clock, 64), *registers, len(plan.entries), bits("first", plan.first, 8), bits("last", plan.last, 8))
     for k, (command, word) in enumerate(plan.entries):
         c.commands[k], c.words[k] = bits("command", command, 8), bits("word", word, 16)
     return c
@@ -59,7 +59,7 @@ def _plan(plan: Plan) -> Structure:
 
 def plan(points: Sequence[SetPoint], window: int) -> Optional[Plan]:
     """The quickest plan that sends 1 to 16 set-points within a window of system clocks; None where there is none at all."""
-    c = qsm_c.library.qsm_plan(_points(points), bits("window", window, 64))
+    c = c_library.functions.qsm_plan(_points(points), bits("window", window, 64))
     if c.refusal != Refusal.ANSWERED:
         return None
     p = c.plan
@@ -68,11 +68,11 @@ def plan(points: Sequence[SetPoint], window: int) -> Optional[Plan]:
 
 def plan_accepts(points: Sequence[SetPoint], window: int, plan: Plan) -> bool:
     """Whether a plan, whoever made it, carries these set-points within this window."""
-    return bool(qsm_c.library.qsm_plan_accepts(_points(points), bits("window", window, 64), _plan(plan)))
+    return bool(c_library.functions.qsm_plan_accepts(_points(points), bits("window", window, 64), _plan(plan)))
 
 
 def plan_writes(plan: Plan) -> list[Put]:
     """The writes that load a plan, in order; the last, of SPCR1, starts the queue."""
     c = _plan(plan)
-    writes = (qsm_c.library.qsm_plan_write(c, k) for k in range(qsm_c.library.qsm_plan_writes(c)))
+    writes = (c_library.functions.qsm_plan_write(c, k) for k in range(c_library.functions.qsm_plan_writes(c)))
     return [Put(w.width, w.offset, w.value) for w in writes]

@@ -1,16 +1,4 @@
-"""Motorola's queued serial module (QSM), over the proved library.
-
-    >>> import qsm
-    >>> card = qsm.Module()
-    >>> card.write(qsm.Offset.SCCR1, qsm.Sccr1.TE | qsm.Sccr1.RE)
-    Answer(refusal=<Refusal.ANSWERED: 0>, value=0, levels=128, mask=128, level=0, vector=0, clock=0)
-    >>> card.hold(1344).clock
-    1344
-
-Names, refusals and meanings are those of include/qsm.h. What a call can't do is told by its refusal, as the module itself tells it. A number
-that an argument can't have raises ValueError before anything is called, and a value of another type TypeError. One Module is not to be used by
-two threads at once; different ones may be.
-"""
+"""A module that a host keeps; a trace played on one; a module whose queue two drivers share."""
 
 from __future__ import annotations
 
@@ -18,20 +6,12 @@ import binascii
 import ctypes
 from collections.abc import Iterator
 from ctypes import Structure
-from typing import Any, NamedTuple, Optional
+from typing import Any, NamedTuple, Optional, TypeVar
 
-import qsm_c
-from qsm_names import Answer, Bytes, Cause, Counts, Field, Offset, Pin, Refusal, Sccr1, Scsr, bits, octets, truth
-from qsm_plan import Plan, Put, SetPoint, plan, plan_accepts, plan_writes
-from qsm_tools import Compared, Dropped, Edition, Editions, Found, Gathered, Index, Indexed, Judgement, Line, Mark, Noise, compare, judge, lines
+from . import library as c_library
+from .names import Answer, Bytes, Counts, Refusal, bits, octets, truth
 
-__all__ = [
-    "ANSWER_LENGTH", "VERSION", "Answer", "Cause", "Compared", "Counts", "Drivers", "Dropped", "Edition", "Editions", "Field", "Found", "Gathered",
-    "Index", "Indexed", "Judgement", "Line", "Mark", "Module", "Noise", "Offset", "Pin", "Plan", "Played", "Put", "Refusal", "Sccr1", "Scsr", "SetPoint",
-    "compare", "judge", "lines", "plan", "plan_accepts", "plan_writes", "play",
-]
-
-VERSION = qsm_c.VERSION
+VERSION = c_library.VERSION
 """The version of a module's state, which saved bytes belong to: QSM_VERSION of the header."""
 
 ANSWER_LENGTH = 18
@@ -92,46 +72,67 @@ class _Kept:
             raise ValueError("the saved bytes are no state of a module")
         self._state = self._form.from_buffer_copy(body)
 
+    def __copy__(self: _Self) -> _Self:
+        other = type(self)()
+        other._state = self._form.from_buffer_copy(self._state)
+        return other
+
+    def __deepcopy__(self: _Self, memo: dict[int, object]) -> _Self:
+        return self.__copy__()
+
+    def __getstate__(self) -> bytes:
+        return self.save()
+
+    def __setstate__(self, saved: bytes) -> None:
+        self.restore(saved)
+
+
+_Self = TypeVar("_Self", bound=_Kept)
+
 
 class Module(_Kept):
     """A module, fresh from reset."""
 
-    _form = qsm_c.Qsm
+    _form = c_library.Qsm
     _name = b"QSM "
 
     def __init__(self) -> None:
-        self._state = qsm_c.library.qsm_new()
+        self._state = c_library.functions.qsm_new()
 
     def reset(self) -> Answer:
         """Reset."""
-        return _answer(qsm_c.library.qsm_reset(self._state))
+        return _answer(c_library.functions.qsm_reset(self._state))
 
     def hold(self, clocks: int, rxd: bool = True, pins: int = 0xFF) -> Answer:
         """Time passes: RXD has its level and the input pins have theirs for 0 to 4,294,967,295 system clocks. CLOCK_LIMIT, where the clocks since
         reset would pass 2^64 - 1."""
         count = bits("clocks", clocks, 32)
-        return _answer(qsm_c.library.qsm_hold(self._state, *_levels(pins, rxd), count))
+        return _answer(c_library.functions.qsm_hold(self._state, *_levels(pins, rxd), count))
 
     def read(self, offset: int, width: int = 2, supervisor: bool = True) -> Answer:
         """A read of 1, 2 or 4 bytes; another width is refused, as MISSHAPEN."""
-        return _answer(qsm_c.library.qsm_read(self._state, *_access(supervisor, width, offset)))
+        return _answer(c_library.functions.qsm_read(self._state, *_access(supervisor, width, offset)))
 
     def write(self, offset: int, value: int, width: int = 2, supervisor: bool = True) -> Answer:
         """A write of 1, 2 or 4 bytes, of which the value is the low end."""
         data = bits("value", value, 32)
-        return _answer(qsm_c.library.qsm_write(self._state, *_access(supervisor, width, offset), data))
+        return _answer(c_library.functions.qsm_write(self._state, *_access(supervisor, width, offset), data))
+
+    def peek(self, offset: int, width: int = 2, supervisor: bool = True) -> Answer:
+        """What a read would give, with none of its effects: it is made on a copy."""
+        return self.__copy__().read(offset, width, supervisor)
 
     def noise(self) -> int:
         """The noise figure of the word in SCDR: how many samples disagreed in its frame."""
-        return int(qsm_c.library.qsm_noise(self._state))
+        return int(c_library.functions.qsm_noise(self._state))
 
     def counts(self) -> Counts:
         """The account of characters since the last reset."""
-        return Counts(qsm_c.library.qsm_taken(self._state), qsm_c.library.qsm_lost(self._state))
+        return Counts(c_library.functions.qsm_taken(self._state), c_library.functions.qsm_lost(self._state))
 
     def until_change(self, rxd: bool = True, pins: int = 0xFF) -> int:
         """The least number of clocks at these levels after which pins or request show something else; 0 if they never will."""
-        return int(qsm_c.library.qsm_until_change(self._state, *_levels(pins, rxd)))
+        return int(c_library.functions.qsm_until_change(self._state, *_levels(pins, rxd)))
 
 
 class Played(NamedTuple):
@@ -159,7 +160,7 @@ def play(trace: Bytes, module: Optional[Module] = None, room: Optional[int] = No
         if left is not None:
             piece = min(piece, left)
         log = ctypes.create_string_buffer(max(piece, 1))
-        c = qsm_c.library.qsm_play(played._state, start + read, len(given) - read, log, piece)
+        c = c_library.functions.qsm_play(played._state, start + read, len(given) - read, log, piece)
         played._state = c.state
         read += c.read
         pieces.append(log.raw[: c.written])
@@ -171,11 +172,11 @@ def play(trace: Bytes, module: Optional[Module] = None, room: Optional[int] = No
 class Drivers(_Kept):
     """A module whose queue two drivers share, the axis driver and the spindle driver, before its first reset. A driver is named by `spindle`."""
 
-    _form = qsm_c.Drivers
+    _form = c_library.Drivers
     _name = b"QSMD"
 
     def __init__(self) -> None:
-        self._state = qsm_c.library.qsm_drivers_new()
+        self._state = c_library.functions.qsm_drivers_new()
 
     @property
     def split(self) -> int:
@@ -189,36 +190,36 @@ class Drivers(_Kept):
 
     def reset(self, split: int) -> Answer:
         """Reset. The first fixes the split, from 1 to 15; another number is NOT_YOURS. Later resets keep it, whatever they name."""
-        return _answer(qsm_c.library.qsm_drivers_reset(self._state, bits("split", split, 8)))
+        return _answer(c_library.functions.qsm_drivers_reset(self._state, bits("split", split, 8)))
 
     def hold(self, clocks: int, rxd: bool = True, pins: int = 0xFF) -> Answer:
         """As of a Module."""
         count = bits("clocks", clocks, 32)
-        return _answer(qsm_c.library.qsm_drivers_hold(self._state, *_levels(pins, rxd), count))
+        return _answer(c_library.functions.qsm_drivers_hold(self._state, *_levels(pins, rxd), count))
 
     def host_read(self, offset: int, width: int = 2, supervisor: bool = True) -> Answer:
         """The host's read, of all of the module."""
-        return _answer(qsm_c.library.qsm_drivers_host_read(self._state, *_access(supervisor, width, offset)))
+        return _answer(c_library.functions.qsm_drivers_host_read(self._state, *_access(supervisor, width, offset)))
 
     def host_write(self, offset: int, value: int, width: int = 2, supervisor: bool = True) -> Answer:
         """The host's write."""
         data = bits("value", value, 32)
-        return _answer(qsm_c.library.qsm_drivers_host_write(self._state, *_access(supervisor, width, offset), data))
+        return _answer(c_library.functions.qsm_drivers_host_write(self._state, *_access(supervisor, width, offset), data))
 
     def read(self, spindle: bool, offset: int, width: int = 2, supervisor: bool = True) -> Answer:
         """A driver's read: NOT_YOURS where it may not make it."""
         who = truth("spindle", spindle)
-        return _answer(qsm_c.library.qsm_drivers_read(self._state, who, *_access(supervisor, width, offset)))
+        return _answer(c_library.functions.qsm_drivers_read(self._state, who, *_access(supervisor, width, offset)))
 
     def write(self, spindle: bool, offset: int, value: int, width: int = 2, supervisor: bool = True) -> Answer:
         """A driver's write: NOT_YOURS where it may not make it."""
         who, data = truth("spindle", spindle), bits("value", value, 32)
-        return _answer(qsm_c.library.qsm_drivers_write(self._state, who, *_access(supervisor, width, offset), data))
+        return _answer(c_library.functions.qsm_drivers_write(self._state, who, *_access(supervisor, width, offset), data))
 
     def claim(self, spindle: bool) -> Answer:
         """A driver claims the queue."""
-        return _answer(qsm_c.library.qsm_drivers_claim(self._state, truth("spindle", spindle)))
+        return _answer(c_library.functions.qsm_drivers_claim(self._state, truth("spindle", spindle)))
 
     def release(self, spindle: bool) -> Answer:
         """A driver gives the queue back."""
-        return _answer(qsm_c.library.qsm_drivers_release(self._state, truth("spindle", spindle)))
+        return _answer(c_library.functions.qsm_drivers_release(self._state, truth("spindle", spindle)))
