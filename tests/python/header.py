@@ -71,7 +71,7 @@ class Header(unittest.TestCase):
 
     def test_documented(self) -> None:
         """Every function has the types of its arguments and of its result, and what is public a text."""
-        for file in sorted((ROOT / "python").glob("*.py")):
+        for file in sorted((ROOT / "python" / "qsm").glob("*.py")):
             for node in ast.walk(ast.parse(file.read_text())):
                 if isinstance(node, (ast.FunctionDef, ast.ClassDef)) and not node.name.startswith("_"):
                     self.assertTrue(ast.get_docstring(node), f"{file.name}: {node.name}")
