@@ -11,7 +11,7 @@ from pathlib import Path
 from typing import Any
 
 import qsm
-import qsm_c
+from qsm import library as qsm_c
 
 ROOT = Path(__file__).resolve().parents[2]
 TEXT = (ROOT / "include" / "qsm.h").read_text()
@@ -71,7 +71,7 @@ class Header(unittest.TestCase):
 
     def test_documented(self) -> None:
         """Every function has the types of its arguments and of its result, and what is public a text."""
-        for file in sorted((ROOT / "python").glob("*.py")):
+        for file in sorted((ROOT / "python" / "qsm").glob("*.py")):
             for node in ast.walk(ast.parse(file.read_text())):
                 if isinstance(node, (ast.FunctionDef, ast.ClassDef)) and not node.name.startswith("_"):
                     self.assertTrue(ast.get_docstring(node), f"{file.name}: {node.name}")
