@@ -3,6 +3,7 @@ pub mod Steps
 pub mod Lines
 pub mod Holds
 pub mod Names
+pub mod AccessItems
 pub mod Accesses
 pub mod Records
 pub mod Texts

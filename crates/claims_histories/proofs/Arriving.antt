@@ -20,21 +20,21 @@ use Rattle.sci.proofs.Wires as half
 use Rattle.qsm.specs.model.State.{resetModule}
 use Rattle.qsm.specs.declared.state.Module.{Module}
 use Rattle.claims_histories.specs.History.{run}
-use Rattle.claims_histories.specs.Demand2.{Two, halves, line, clock, play, clocksIn, Frame, begun, ended, period, width, Begins, Sends, Received, Waits, Word, AllSent, AllRead, AllReceived, ArriveInTurn, BeginsAtOne}
+use Rattle.claims_histories.specs.Demand2.{Two, halves, wireLevel, clock, play, clocksIn, Frame, begun, ended, period, width, Begins, Sends, Received, Waits, Word, AllSent, AllRead, AllReceived, ArriveInTurn, BeginsAtOne}
 use Rattle.claims_histories.proofs.Lifted.{all, from-reset}
-use Rattle.claims_histories.proofs.Pin.{line-driven}
+use Rattle.claims_histories.proofs.Pin.{wire-driven}
 use Rattle.claims_histories.proofs.Joined.{Plain, project, clock-halves, project-steps, project-unchanged, project-rests, project-clocks, rests-plain, Drives, drives-plain}
 use Rattle.claims_histories.proofs.Reading.{project-both}
 
--- A module that begins a frame drives the line.
+-- A module that begins a frame drives the wire.
 pub begins-driven : (m : Module) → Begins m → txdDriven (m .sci) ≡ true
 begins-driven m b = ap (λ (t : Bool). t || runs (m .sci .transmitter)) (begins-te (m .sci) (b .frame))
 
--- And the line is at one.
+-- And the wire is at one.
 pub begins-at-one : BeginsAtOne
 begins-at-one es undriven b =
     let m : Module = run es resetModule in
-    line-driven m undriven (begins-driven m b) ∙ ap txd (from-reset es)
+    wire-driven m undriven (begins-driven m b) ∙ ap txd (from-reset es)
     ∙ free-at-one (all es resetModule) (subst (λ (s : Sci). free (s .transmitter) ≡ true) (from-reset es) (begins-free (m .sci) (b .frame)))
 
 -- The receiver's last sample comes before the frame's last clock.
@@ -57,7 +57,7 @@ module _ (f : Frame) (q : Two) (d : Sends f q) where
   begins = record { sample = d .begins .sample; frame = d .begins .frame }
 
   pub at-begun : wire.begun (onWire f q) (halves q) ≡ halves b
-  at-begun = clock-halves (f .first) q (d .counts) (line-driven (q .sender) (f .first .undriven) (begins-driven (q .sender) (d .begins)))
+  at-begun = clock-halves (f .first) q (d .counts) (wire-driven (q .sender) (f .first .undriven) (begins-driven (q .sender) (d .begins)))
 
   drives : Drives n (halves b)
   drives fs h =
@@ -72,9 +72,9 @@ module _ (f : Frame) (q : Two) (d : Sends f q) where
   at-later : steps (project (f .later) b) (halves b) ≡ halves (play (f .later) b)
   at-later = project-steps (f .later) b (d .unchanged) later-plain
 
-  last-plain : line (play (f .later) b .sender) (f .last .undriven) ≡ txd (play (f .later) b .sender .sci)
+  last-plain : wireLevel (play (f .later) b .sender) (f .last .undriven) ≡ txd (play (f .later) b .sender .sci)
   last-plain =
-      line-driven (play (f .later) b .sender) (f .last .undriven)
+      wire-driven (play (f .later) b .sender) (f .last .undriven)
       (subst (λ (w : Wired). txdDriven (w .sender) ≡ true) at-later
       (drives (project (f .later) b) (subst (λ (k : ℕ). k < n) (sym (project-clocks (f .later) b)) few)))
 

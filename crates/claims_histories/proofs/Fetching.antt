@@ -22,8 +22,8 @@ use Rattle.qsm.specs.model.Access.{fetch, fetched}
 use Rattle.qsm.specs.model.Decision.{permits, decideRead}
 use Rattle.qsm.specs.model.Event.{readValue, step}
 use Rattle.qsm.specs.declared.state.Module.{Module}
-use Rattle.claims_histories.specs.History.{after, log, eventMarks}
-use Rattle.claims_histories.specs.Sentence.{readsStatus, readsData, Reads}
+use Rattle.claims_histories.specs.History.{after, readsStatus, readsData, log, eventMarks}
+use Rattle.claims_histories.specs.Sentence.{Reads}
 use Rattle.claims_histories.proofs.Follows.{follows}
 use Rattle.claims_histories.proofs.Shown.{answered}
 

@@ -16,9 +16,9 @@ use Rattle.qsm.specs.declared.event.Access as bus
 use Rattle.qsm.specs.declared.event.Event.the-variants.{Hold}
 use Rattle.qsm.specs.declared.event.Event.the-variants as event
 use Rattle.claims_histories.specs.History.{after}
-use Rattle.claims_histories.specs.Demand2.{Two, halves, line, Tick, Moment, clock, atSender, atReceiver, next, play, clocksIn, Counts, SameSettings, SameReception, Unchanged, Rests}
+use Rattle.claims_histories.specs.Demand2.{Two, halves, wireLevel, Tick, Moment, clock, atSender, atReceiver, next, play, clocksIn, Counts, SameSettings, SameReception, Unchanged, Rests}
 use Rattle.claims_histories.proofs.Follows as follow
-use Rattle.claims_histories.proofs.Pin.{line-driven, line-rests}
+use Rattle.claims_histories.proofs.Pin.{wire-driven, wire-rests}
 use Rattle.claims_histories.proofs.Given.{accessedAll, makes, access-half}
 use Rattle.claims_histories.proofs.OnWire.{sender-kept, receiver-kept, joined, atS, atR, sender-steps, receiver-steps, sender-unchanged, receiver-unchanged, sender-rests, receiver-rests, sender-clocks, receiver-clocks, rests-sender, rests-receiver}
 
@@ -27,10 +27,10 @@ unfolding half.run half.step
 hold-half pins x m h =
     follow.follows (Hold pins x 1) m ∙ ap (λ (b : Bool). half.run (clocks (cond b 0 1) x) (m .sci)) h
 
--- The line is TXD before each clock.
+-- The wire is TXD before each clock.
 abbrev pub Plain : List Moment → Two → Type 0
 Plain [] q = Unit {0}
-Plain (clock t ∷ es) q = (line (q .sender) (t .undriven) ≡ txd (q .sender .sci)) × Plain es (next (clock t) q)
+Plain (clock t ∷ es) q = (wireLevel (q .sender) (t .undriven) ≡ txd (q .sender .sci)) × Plain es (next (clock t) q)
 Plain (atSender a ∷ es) q = Plain es (next (atSender a) q)
 Plain (atReceiver a ∷ es) q = Plain es (next (atReceiver a) q)
 
@@ -40,14 +40,14 @@ project (clock t ∷ es) q = wire.clock (t .rxd) ∷ project es (next (clock t) 
 project (atSender a ∷ es) q = atS (makes a (q .sender)) (project es (next (atSender a) q))
 project (atReceiver a ∷ es) q = atR (makes a (q .receiver)) (project es (next (atReceiver a) q))
 
-pub clock-halves : (t : Tick) (q : Two) → Counts q → line (q .sender) (t .undriven) ≡ txd (q .sender .sci) →
+pub clock-halves : (t : Tick) (q : Two) → Counts q → wireLevel (q .sender) (t .undriven) ≡ txd (q .sender .sci) →
     step (wire.clock (t .rxd)) (halves q) ≡ halves (next (clock t) q)
 unfolding step next
 clock-halves t q counts e =
     ap (λ (s : Sci). joined s (clocked (q .receiver .sci) (txd (q .sender .sci)))) (sym (hold-half (t .pins) (t .rxd) (q .sender) (counts .0)))
     ∙ ap (λ (x : Bool). joined (after (Hold (t .pins) (t .rxd) 1) (q .sender) .sci) (clocked (q .receiver .sci) x)) (sym e)
     ∙ ap (joined (after (Hold (t .pins) (t .rxd) 1) (q .sender) .sci))
-    (sym (hold-half (t .pins′) (line (q .sender) (t .undriven)) (q .receiver) (counts .1)))
+    (sym (hold-half (t .pins′) (wireLevel (q .sender) (t .undriven)) (q .receiver) (counts .1)))
 
 sender-halves : (a : bus.Access) (q : Two) → SameSettings (q .sender) (after (event.Access a) (q .sender)) →
     joined (accessedAll (makes a (q .sender)) (q .sender .sci)) (q .receiver .sci) ≡ halves (next (atSender a) q)
@@ -120,7 +120,7 @@ project-clocks (atReceiver a ∷ es) q =
 -- At rest, and while a frame drives it.
 pub rests-plain : (es : List Moment) (q : Two) → Rests es q → Plain es q
 rests-plain [] q r = tt
-rests-plain (clock t ∷ es) q r = (line-rests (q .sender) (t .undriven) (r .0), rests-plain es (next (clock t) q) (r .1))
+rests-plain (clock t ∷ es) q r = (wire-rests (q .sender) (t .undriven) (r .0), rests-plain es (next (clock t) q) (r .1))
 rests-plain (atSender a ∷ es) q r = rests-plain es (next (atSender a) q) r
 rests-plain (atReceiver a ∷ es) q r = rests-plain es (next (atReceiver a) q) r
 
@@ -152,8 +152,8 @@ pub drives-plain : (es : List Moment) (q : Two) (n : ℕ) → Drives n (halves q
 drives-plain [] q n d l u = tt
 drives-plain (clock t ∷ es) q zero d l u = absurd (omega (arith, l))
 drives-plain (clock t ∷ es) q (suc n) d l u =
-    let e : line (q .sender) (t .undriven) ≡ txd (q .sender .sci) =
-    line-driven (q .sender) (t .undriven) (driven-now n (halves q) d) in (
+    let e : wireLevel (q .sender) (t .undriven) ≡ txd (q .sender .sci) =
+    wire-driven (q .sender) (t .undriven) (driven-now n (halves q) d) in (
       e,
       drives-plain es (next (clock t) q) n (clock-drives n (t .rxd) (halves q) (halves (next (clock t) q)) (clock-halves t q (u .0) e) d)
           (omega (arith, l)) (u .1),
@@ -168,7 +168,7 @@ drives-plain (atReceiver a ∷ es) q n d l u =
     (receiver-halves a q (u .0)) d)
     l (u .1)
 
--- The line rests where TXD does.
+-- The wire rests where TXD does.
 pub rests-project : (es : List Moment) (q : Two) → Unchanged es q → Plain es q → wire.Rests (project es q) (halves q) → Rests es q
 unfolding wire.Rests
 rests-project [] q u p r = tt

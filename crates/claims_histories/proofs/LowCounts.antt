@@ -5,7 +5,7 @@ use native.Mathlib.Omega.{arith}
 use Rattle.qsm.specs.model.Event.{clockLimit}
 use Rattle.qsm.specs.declared.event.Event.the-variants.{Hold}
 use Rattle.qsm.proofs.Limit.{is-room}
-use Rattle.claims_histories.specs.Demand2.{Two, line, Moment, clock, atSender, atReceiver, next, play, Counts}
+use Rattle.claims_histories.specs.Demand2.{Two, wireLevel, Moment, clock, atSender, atReceiver, next, play, Counts}
 use Rattle.claims_histories.proofs.Room.{after-count, access-count}
 
 abbrev pub Low : ℕ → Two → Type 0
@@ -28,7 +28,7 @@ pub low-next : (e : Moment) (k : ℕ) (q : Two) → Low k q → Low (raised e k)
 unfolding next
 low-next (clock t) k q low = (
   omega (arith, after-count (Hold (t .pins) (t .rxd) 1) (q .sender)),
-  omega (arith, after-count (Hold (t .pins′) (line (q .sender) (t .undriven)) 1) (q .receiver)),
+  omega (arith, after-count (Hold (t .pins′) (wireLevel (q .sender) (t .undriven)) 1) (q .receiver)),
 )
 low-next (atSender a) k q low = (omega (arith, access-count a (q .sender)), low .1)
 low-next (atReceiver a) k q low = (low .0, omega (arith, access-count a (q .receiver)))

@@ -13,7 +13,7 @@ use Rattle.sci.proofs.Membership.{bit-or, bit-and, bit-less}
 use Rattle.qsm.specs.model.Pins.{outputs, without, select, mask, owned, ownLevels, levels}
 use Rattle.qsm.specs.declared.state.Module.{Module}
 use Rattle.qsm.specs.declared.pins.Outputs.{Outputs}
-use Rattle.claims_histories.specs.Demand2.{line, PinShows}
+use Rattle.claims_histories.specs.Demand2.{wireLevel, PinShows}
 
 or-true : (a : Bool) → a || true ≡ true
 or-true true = refl
@@ -98,8 +98,8 @@ cond-true : (b c z : Bool) → b ≡ true → cond b c z ≡ c
 cond-true true c z e = refl
 cond-true false c z e = absurd (false≢true e)
 
-pub line-driven : (m : Module) (z : Bool) → txdDriven (m .sci) ≡ true → line m z ≡ txd (m .sci)
-line-driven m z e =
+pub wire-driven : (m : Module) (z : Bool) → txdDriven (m .sci) ≡ true → wireLevel m z ≡ txd (m .sci)
+wire-driven m z e =
     cond-true (bit 7 (mask (outputs m))) (bit 7 (levels (outputs m))) z (mask-driven (outputs m) e) ∙ level-driven (outputs m) e
 
 -- An undriven TXD is one.
@@ -108,11 +108,11 @@ resting true r s e = absurd (true≢false e)
 resting false true s e = absurd (true≢false e)
 resting false false s e = refl
 
-by-driven : (b : Bool) (m : Module) (z : Bool) → txdDriven (m .sci) ≡ b → line m z ≡ true → line m z ≡ txd (m .sci)
-by-driven true m z e h = line-driven m z e
+by-driven : (b : Bool) (m : Module) (z : Bool) → txdDriven (m .sci) ≡ b → wireLevel m z ≡ true → wireLevel m z ≡ txd (m .sci)
+by-driven true m z e h = wire-driven m z e
 by-driven false m z e h =
     h ∙ sym (resting (TE (m .sci .sccr1)) (runs (m .sci .transmitter)) (eqb (m .sci .transmitter .shift % 2) 1) e)
 
--- A line that rests at one is TXD, driven or not.
-pub line-rests : (m : Module) (z : Bool) → line m z ≡ true → line m z ≡ txd (m .sci)
-line-rests m z h = by-driven (txdDriven (m .sci)) m z refl h
+-- A wire that rests at one is TXD, driven or not.
+pub wire-rests : (m : Module) (z : Bool) → wireLevel m z ≡ true → wireLevel m z ≡ txd (m .sci)
+wire-rests m z h = by-driven (txdDriven (m .sci)) m z refl h

@@ -21,7 +21,7 @@ use Rattle.qsm.specs.model.Lanes.{inMap}
 use Rattle.qsm.specs.model.Decision.{admitted, decideRead}
 use Rattle.qsm.specs.declared.event.Access.the-variants.{Read, Write}
 use Rattle.claims_histories.specs.Demand2.{Two, halves, Moment, clock, atSender, atReceiver, next, play, Counts, Unchanged, Rests, begun, Begins, Sends, AllSent, AllRead, StopBit}
-use Rattle.claims_histories.proofs.Pin.{line-driven}
+use Rattle.claims_histories.proofs.Pin.{wire-driven}
 use Rattle.claims_histories.proofs.OnWire.{joined}
 use Rattle.claims_histories.proofs.Uncounted.{uncounted}
 use Rattle.claims_histories.proofs.Joined.{project, clock-halves, project-steps, rests-plain, play-append}
@@ -118,7 +118,7 @@ record Gone (w : Wired) : Type 0 where
 z-gone : Gone (halves (begun (other .frame) z))
 unfolding sci.run sci.step wroteSccr0 wroteSccr1 sccr0Guarded sccr1Guarded sampled clocked wire.accessed step wire.steps
 z-gone =
-    subst Gone (clock-halves tick z z-counts (line-driven (z .sender) true (begins-driven (z .sender) other-begins)))
+    subst Gone (clock-halves tick z z-counts (wire-driven (z .sender) true (begins-driven (z .sender) other-begins)))
     (subst (λ (w : Wired). Gone (step (wire.clock true) w)) (sym at-z) (record { control = refl; count = refl }))
 
 other-sends : Sends (other .frame) z

@@ -30,7 +30,7 @@ use Rattle.qsm.specs.declared.event.Access.the-variants.{Write}
 use Rattle.qsm.specs.declared.event.Event.the-variants as event
 use Rattle.claims_histories.specs.History.{breaks}
 use Rattle.claims_histories.specs.Demand2.{Two, halves, Moment, clock, atSender, atReceiver, next, play, Counts, Unchanged, begun, ended, Begins, Sends}
-use Rattle.claims_histories.proofs.Pin.{line-driven}
+use Rattle.claims_histories.proofs.Pin.{wire-driven}
 use Rattle.claims_histories.proofs.OnWire.{joined, atR}
 use Rattle.claims_histories.proofs.Room.{since-count}
 use Rattle.claims_histories.proofs.LowCounts.{Low, low-counts, low-next, low-play}
@@ -67,7 +67,7 @@ begunHalves = step (wire.clock true) (joined sending listening)
 
 at-b : halves b ≡ begunHalves
 at-b =
-    sym (clock-halves tick two two-counts (line-driven (two .sender) true (begins-driven (two .sender) one-begins)))
+    sym (clock-halves tick two two-counts (wire-driven (two .sender) true (begins-driven (two .sender) one-begins)))
     ∙ ap (step (wire.clock true)) start
 
 matched : Matched begunHalves

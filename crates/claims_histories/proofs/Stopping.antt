@@ -9,8 +9,8 @@ use Rattle.sci.specs.model.Serial.{txdDriven, txd}
 use Rattle.sci.specs.claims.Wire.{Wired, steps, step}
 use Rattle.sci.specs.claims.Wire as wire
 use Rattle.sci.proofs.StopBit.{frame-drives, stop-bit-rests}
-use Rattle.claims_histories.specs.Demand2.{Two, halves, line, Tick, Moment, clock, next, play, clocksIn, Counts, Unchanged, period, width, Begins, StopBit, StopBitRests}
-use Rattle.claims_histories.proofs.Pin.{line-driven}
+use Rattle.claims_histories.specs.Demand2.{Two, halves, wireLevel, Tick, Moment, clock, next, play, clocksIn, Counts, Unchanged, period, width, Begins, StopBit, StopBitRests}
+use Rattle.claims_histories.proofs.Pin.{wire-driven}
 use Rattle.claims_histories.proofs.Arriving.{begins-driven}
 use Rattle.claims_histories.proofs.Joined.{Plain, project, clock-halves, project-steps, project-clocks, Drives, drives-plain, rests-project, unchanged-append, plain-first, plain-second, clocks-append, play-append}
 
@@ -26,8 +26,8 @@ module _ (q : Two) (t : Tick) (es later : List Moment) (h : Begins (q .sender)) 
   abbrev z : Two
   z = play later c
 
-  first-plain : line (q .sender) (t .undriven) ≡ txd (q .sender .sci)
-  first-plain = line-driven (q .sender) (t .undriven) (begins-driven (q .sender) h)
+  first-plain : wireLevel (q .sender) (t .undriven) ≡ txd (q .sender .sci)
+  first-plain = wire-driven (q .sender) (t .undriven) (begins-driven (q .sender) h)
 
   begins : wire.Begins (halves q)
   begins = record { sample = h .sample; frame = h .frame }
@@ -70,8 +70,8 @@ module _ (q : Two) (t : Tick) (es later : List Moment) (h : Begins (q .sender)) 
       (ap (λ (k : ℕ). suc (k + wire.clocksIn (project later c))) (project-clocks es b)
       ∙ ap (λ (k : ℕ). suc (clocksIn es + k)) (project-clocks later c) ∙ whole))
 
-  one : (x : Bool) → line (z .sender) x ≡ true
-  one x = line-driven (z .sender) x driven ∙ subst (λ (w : Wired). txd (w .sender) ≡ true) at-z (stops .one)
+  one : (x : Bool) → wireLevel (z .sender) x ≡ true
+  one x = wire-driven (z .sender) x driven ∙ subst (λ (w : Wired). txd (w .sender) ≡ true) at-z (stops .one)
 
   stopped : StopBit later c
   stopped =

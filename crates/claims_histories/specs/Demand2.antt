@@ -33,11 +33,11 @@ pub record Two : Type 0 where
 abbrev pub halves : Two → Wired
 halves q = record { sender = q .sender .sci; receiver = q .receiver .sci }
 
--- Pin 7 as the answers show it; where the module doesn't drive it, whatever level the line has.
-abbrev pub line : Module → Bool → Bool
-line m undriven = cond (bit 7 (mask (outputs m))) (bit 7 (levels (outputs m))) undriven
+-- Pin 7 as the answers show it; where the module doesn't drive it, whatever level the wire has.
+abbrev pub wireLevel : Module → Bool → Bool
+wireLevel m undriven = cond (bit 7 (mask (outputs m))) (bit 7 (levels (outputs m))) undriven
 
--- A clock of both: the levels at the pins of each, the sender's RXD, and the level of a line that isn't driven.
+-- A clock of both: the levels at the pins of each, the sender's RXD, and the level of a wire that isn't driven.
 pub record Tick : Type 0 where
   pub pins : ℕ
   pub rxd : Bool
@@ -55,7 +55,7 @@ unfoldable pub next : Moment → Two → Two
 next (clock t) q =
     record {
       sender = after (Hold (t .pins) (t .rxd) 1) (q .sender);
-      receiver = after (Hold (t .pins′) (line (q .sender) (t .undriven)) 1) (q .receiver);
+      receiver = after (Hold (t .pins′) (wireLevel (q .sender) (t .undriven)) 1) (q .receiver);
     }
 next (atSender a) q = record { sender = after (event.Access a) (q .sender); receiver = q .receiver }
 next (atReceiver a) q = record { sender = q .sender; receiver = after (event.Access a) (q .receiver) }
@@ -104,10 +104,10 @@ Unchanged (atReceiver a ∷ es) q = SameReception (q .receiver) (after (event.Ac
 abbrev pub Uncounted : Type 0
 Uncounted = (m : Module) (a : Access) → breaks (event.Access a) m ≡ false → SameReception m (after (event.Access a) m)
 
--- The line rests at one before each of these clocks, driven or not.
+-- The wire rests at one before each of these clocks, driven or not.
 abbrev pub Rests : List Moment → Two → Type 0
 Rests [] q = Unit {0}
-Rests (clock t ∷ es) q = (line (q .sender) (t .undriven) ≡ true) × Rests es (next (clock t) q)
+Rests (clock t ∷ es) q = (wireLevel (q .sender) (t .undriven) ≡ true) × Rests es (next (clock t) q)
 Rests (atSender a ∷ es) q = Rests es (next (atSender a) q)
 Rests (atReceiver a ∷ es) q = Rests es (next (atReceiver a) q)
 
@@ -116,7 +116,7 @@ pub record Begins (m : Module) : Type 0 where
   pub sample : due (m .sci) ≡ true
   pub frame : beginsFrame (m .sci .transmitter) (m .sci .status) (m .sci .sccr1) ≡ true
 
--- A frame on the line: the clock at which it begins, what happens from there to its last sample at the receiver, and that clock.
+-- A frame on the wire: the clock at which it begins, what happens from there to its last sample at the receiver, and that clock.
 pub record Frame : Type 0 where
   pub first : Tick
   pub later : List Moment
@@ -149,11 +149,11 @@ Received f q =
     InScdr (dataBits (q .sender .sci .sccr1) (q .sender .sci .transmitter .scdr) % 2 ^ width q)
     (hearing (ended f q .receiver .sci))
 
--- While the line rests at one a receiver that is ready stays so, whatever is read and written.
+-- While the wire rests at one a receiver that is ready stays so, whatever is read and written.
 abbrev pub Waits : Type 0
 Waits = (q : Two) (es : List Moment) → Matched (halves q) → Unchanged es q → Rests es q → Matched (halves (play es q))
 
--- Words in turn, with or without pause: what happens until a word's frame begins, with the line at one, and the frame.
+-- Words in turn, with or without pause: what happens until a word's frame begins, with the wire at one, and the frame.
 pub record Word : Type 0 where
   pub idle : List Moment
   pub frame : Frame
@@ -185,11 +185,11 @@ ArriveInTurn =
     (q : Two) (f : Frame) (us : List Word) → Sends f q → Matched (halves (begun f q)) → AllSent us (ended f q) →
     AllRead us (ended f q) → Received f q × AllReceived us (ended f q)
 
--- Without pause: from the stop bit on the line rests at one, until at the frame's last clock its last sample is due and the shifter is
+-- Without pause: from the stop bit on the wire rests at one, until at the frame's last clock its last sample is due and the shifter is
 -- free.
 pub record StopBit (es : List Moment) (q : Two) : Type 0 where
   pub rests : Rests es q
-  pub one : (undriven : Bool) → line (play es q .sender) undriven ≡ true
+  pub one : (undriven : Bool) → wireLevel (play es q .sender) undriven ≡ true
   -- A word that waits by then is the next frame's, if TE is set and no preamble goes before.
   pub begins : has (q .sender .sci .status) TDRE ≡ false → TE (play es q .sender .sci .sccr1) ≡ true →
       play es q .sender .sci .transmitter .preamble ≡ false → Begins (play es q .sender)
@@ -205,9 +205,9 @@ abbrev pub PinShows : Type 0
 PinShows =
     (m : Module) → txdDriven (m .sci) ≡ true → (bit 7 (mask (outputs m)) ≡ true) × (bit 7 (levels (outputs m)) ≡ txd (m .sci))
 
--- Of every module since its reset: the line is at one when a frame begins.
+-- Of every module since its reset: the wire is at one when a frame begins.
 abbrev pub BeginsAtOne : Type 0
-BeginsAtOne = (es : List Event) (undriven : Bool) → Begins (run es resetModule) → line (run es resetModule) undriven ≡ true
+BeginsAtOne = (es : List Event) (undriven : Bool) → Begins (run es resetModule) → wireLevel (run es resetModule) undriven ≡ true
 
 -- And SCCR0 is SCBR: its other bits don't exist.
 abbrev pub RateIsAll : Type 0

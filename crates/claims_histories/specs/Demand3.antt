@@ -148,7 +148,7 @@ Stepped = (m : Module) (e : Event) → after e m ≡ step m e .state
 abbrev pub Counted : Type 0
 Counted = (es : List Event) (m : Module) → run es m .clock ≡ counted es m (m .clock)
 
--- And whatever the line and the firmware do, no word that came after a lost one, with no reset between, is delivered before a permitted
+-- And whatever RXD and the firmware do, no word that came after a lost one, with no reset between, is delivered before a permitted
 -- status read made since its run of losses raised OR.
 pub record Demand3 : Type 0 where
   pub recovered : Recovered

@@ -28,6 +28,13 @@ unfoldable pub run : List Event → Module → Module
 run [] m = m
 run (e ∷ es) m = run es (after e m)
 
+-- Status, then data, as words.
+abbrev pub readsStatus : Bool → Event
+readsStatus supervisor = event.Access (Read supervisor 2 0x0C)
+
+abbrev pub readsData : Bool → Event
+readsData supervisor = event.Access (Read supervisor 2 0x0E)
+
 -- A permitted read (neither refused nor stopped by privilege) that touches one of bytes 0C to 0F; and a permitted write, the same value
 -- included, that touches one of bytes 08 to 0B (SCCR0, SCCR1), as byte, word or half of a long.
 abbrev pub receiverRead : Module → Bool → ℕ → ℕ → Bool

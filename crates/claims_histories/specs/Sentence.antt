@@ -19,11 +19,10 @@ use Rattle.qsm.specs.model.Decision.{permits, decideRead}
 use Rattle.qsm.specs.model.Event.{passes, held, clockModule, step}
 use Rattle.qsm.specs.declared.state.Module.{Module}
 use Rattle.qsm.specs.declared.pins.Outputs.{Outputs}
-use Rattle.qsm.specs.declared.event.Access.the-variants.{Read}
 use Rattle.qsm.specs.declared.event.Event.{Event}
 use Rattle.qsm.specs.declared.event.Event.the-variants.{Reset, Hold}
 use Rattle.qsm.specs.declared.event.Event.the-variants as event
-use Rattle.claims_histories.specs.History.{after, run, playedClocks, log}
+use Rattle.claims_histories.specs.History.{after, run, readsStatus, readsData, playedClocks, log}
 use Rattle.claims_histories.specs.Demand2.{SameSettings, SameReception, Begins}
 
 -- The wire. What a module drives before each clock that its list plays, and RXD's level in each; a hold that is refused plays none.
@@ -161,13 +160,6 @@ wordMarks (wordCame w ∷ l) = wordCame w ∷ wordMarks l
 wordMarks (statusRead ∷ l) = wordMarks l
 wordMarks (wordDelivered w ∷ l) = wordDelivered w ∷ wordMarks l
 wordMarks (wasReset ∷ l) = wasReset ∷ wordMarks l
-
--- Status, then data.
-abbrev pub readsStatus : Bool → Event
-readsStatus supervisor = event.Access (Read supervisor 2 0x0C)
-
-abbrev pub readsData : Bool → Event
-readsData supervisor = event.Access (Read supervisor 2 0x0E)
 
 -- What the firmware gets by permitted reads of a module: the status word has RDRF and no other receive flag, the data word is w, and with it
 -- the word is delivered.

@@ -15,7 +15,7 @@ use Rattle.qsm.specs.declared.event.Access.the-variants.{Read, Write}
 use Rattle.qsm.specs.declared.event.Event.{Event}
 use Rattle.qsm.specs.declared.event.Event.the-variants.{Hold}
 use Rattle.qsm.specs.declared.event.Event.the-variants as event
-use Rattle.claims_histories.specs.History.{after, run, Unbroken, ops, freshWord, watched, log}
+use Rattle.claims_histories.specs.History.{after, run, readsStatus, readsData, Unbroken, ops, freshWord, watched, log}
 use Rattle.claims_histories.specs.Demand3.{Recovers, Compared}
 
 -- SCBR 1, then RE, as words.
@@ -34,12 +34,11 @@ abbrev pub letter : List Event
 letter =
     samples 16 false ∷ (samples 16 true ∷ (samples 80 false ∷ (samples 16 true ∷ (samples 16 false ∷ (samples 16 true ∷ [])))))
 
--- Status, then data.
 abbrev pub status : Event
-status = event.Access (Read true 2 0x0C)
+status = readsStatus true
 
 abbrev pub fetch : List Event
-fetch = status ∷ (event.Access (Read true 2 0x0E) ∷ [])
+fetch = status ∷ (readsData true ∷ [])
 
 -- A letter taken and read; ones, and the idle line's flag read away; a letter again.
 abbrev pub before : List Event

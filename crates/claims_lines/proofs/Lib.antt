@@ -8,6 +8,7 @@ pub mod Played
 pub mod Simulated
 pub mod Scheduled
 pub mod Causes
+pub mod Underway
 pub mod Wire
 pub mod Lines
 pub mod Handing

@@ -20,7 +20,8 @@ use Rattle.claims_lines.proofs.Account.{Account, fresh, closing, growin
 use Rattle.claims_lines.proofs.Stands.{Stands, clear, Done, first-match}
 use Rattle.claims_lines.proofs.Simulated.{simulated}
 use Rattle.claims_lines.proofs.Scheduled.{scheduled-plays}
-use Rattle.claims_lines.proofs.Wire.{Inv, first-inv, inv-lost, inv-status, inv-came, inv-delivered, inv-reset, told-report}
+use Rattle.claims_lines.proofs.Underway.{Inv}
+use Rattle.claims_lines.proofs.Wire.{first-inv, inv-lost, inv-status, inv-came, inv-delivered, inv-reset, told-report}
 
 -- A replay from reset on.
 starts : Stands (slotOf (resetModule .sci)) firstLine fresh none

@@ -1,4 +1,4 @@
-pub mod Marks
+pub mod SeenFlags
 pub mod Walked
 pub mod Fresh
 pub mod Runs

@@ -33,7 +33,7 @@ use Rattle.tool_plan.proofs.Sending.{Shows, shows, bit-read, read-in}
 use Rattle.tool_plan.proofs.Resting.{rests, early}
 use Rattle.claims_plans.specs.Watching.{clocksIn}
 use Rattle.claims_plans.specs.Standing.{Laid, RunsPlan}
-use Rattle.claims_plans.proofs.Marks.{marked}
+use Rattle.claims_plans.proofs.SeenFlags.{withSeen}
 use Rattle.claims_plans.proofs.Walked.{Walked, walked}
 use Rattle.claims_plans.proofs.Fresh.{Fresh}
 
@@ -119,7 +119,7 @@ module _ (s : SetPoints) (window : ℕ) (p : Plan) (a : Accepted s window p) (l 
     abbrev q : Qspi
     q = run levels c (l .qspi)
 
-    is-run : x .qspi ≡ marked (w .seen) q
+    is-run : x .qspi ≡ withSeen (w .seen) q
     is-run = w .queue
 
     mosi-assigned : assigned x 1 ≡ true

@@ -36,14 +36,14 @@ use Rattle.qsm.proofs.Limit.{hold-played}
 use Rattle.qsm.proofs.Stored.{state-if}
 use Rattle.tool_plan.specs.Running.{played}
 use Rattle.claims_plans.specs.Watching.{clocksOf, clocksIn, Watches, Watched}
-use Rattle.claims_plans.proofs.Marks.{marked, run-marked}
+use Rattle.claims_plans.proofs.SeenFlags.{withSeen, run-seen}
 
 -- A run of n clocks from one module to another, under some pins without mode fault.
 pub record Walked (m : Module) (n : ℕ) (x : Module) : Type 0 where
   pub levels : ℕ → Pins
   pub quiet : Calm levels
   pub seen : Flags
-  pub queue : x .qspi ≡ marked seen (run levels n (m .qspi))
+  pub queue : x .qspi ≡ withSeen seen (run levels n (m .qspi))
   pub pqspar : x .pqspar ≡ m .pqspar
   pub ddrqs : x .ddrqs ≡ m .ddrqs
   pub portqs : x .portqs ≡ m .portqs
@@ -85,9 +85,9 @@ then m k x a b v w =
       seen = w .seen;
       queue =
           w .queue
-          ∙ ap (λ (q : Qspi). marked (w .seen) (run (w .levels) b q)) (v .queue)
-          ∙ ap (marked (w .seen)) (run-marked (v .seen) (w .levels) b (run (v .levels) a (m .qspi)))
-          ∙ ap (marked (w .seen)) (joined-runs (v .levels) (w .levels) a b (m .qspi));
+          ∙ ap (λ (q : Qspi). withSeen (w .seen) (run (w .levels) b q)) (v .queue)
+          ∙ ap (withSeen (w .seen)) (run-seen (v .seen) (w .levels) b (run (v .levels) a (m .qspi)))
+          ∙ ap (withSeen (w .seen)) (joined-runs (v .levels) (w .levels) a b (m .qspi));
       pqspar = w .pqspar ∙ v .pqspar;
       ddrqs = w .ddrqs ∙ v .ddrqs;
       portqs = w .portqs ∙ v .portqs;
@@ -145,11 +145,11 @@ module _ (m : Module) (pins : ℕ) (rxd : Bool) (n : ℕ) (room : passes m n ≡
       (λ off. run-off (λ c. pinsOf (held m pins)) n (m .qspi) off ∙ sym (run-off (λ c. high) n (m .qspi) off))))
       (λ fine. under (λ c. pinsOf (held m pins)) (λ c. fine) refl)
 
--- A read: nothing but the marks, of the queue.
-read-marks : (status : Bool) (q : Qspi) → queueRead status q ≡ marked (queueRead status q .spsr .seen) q
+-- A read: nothing but which flags are seen, of the queue.
+read-seen : (status : Bool) (q : Qspi) → queueRead status q ≡ withSeen (queueRead status q .spsr .seen) q
 unfolding queueRead
-read-marks true q = refl
-read-marks false q = refl
+read-seen true q = refl
+read-seen false q = refl
 
 read-walked : (m : Module) (supervisor : Bool) (width offset : ℕ) → Walked m 0 (does m (event.Access (Read supervisor width offset)) .state)
 unfolding does reads refused afterRead run
@@ -160,7 +160,7 @@ read-walked m supervisor width offset =
       levels = λ c. high;
       quiet = λ c. refl;
       seen = queueRead (touches 0x1F 1 width offset) (m .qspi) .spsr .seen;
-      queue = read-marks (touches 0x1F 1 width offset) (m .qspi);
+      queue = read-seen (touches 0x1F 1 width offset) (m .qspi);
       pqspar = refl;
       ddrqs = refl;
       portqs = refl;

@@ -22,7 +22,7 @@ ReplayKept =
     let es : List Event = replayed period since clock t m in
     waiting m ≡ false → since < period → period ≤ longest moves m → Unbroken es m → MovingIn moves es m → lostIn (log es m) ≡ 0
 
--- There is such a replay: SCBR 1 and RE, and the line at one for 6 clocks, polled twice.
+-- There is such a replay: SCBR 1 and RE, and RXD at one for 6 clocks, polled twice.
 abbrev pub quiet : List ℕ
 quiet = 2 ∷ (0 ∷ (1 ∷ (0 ∷ (6 ∷ []))))
 

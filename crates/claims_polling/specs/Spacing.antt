@@ -1,4 +1,4 @@
--- Document 02, L3 and L8: how many samples apart two frames can end, for any line and any number of reads between.
+-- Document 02, L3 and L8: how many samples apart two frames can end, for whatever comes on RXD and any number of reads between.
 use mathlib.Core.Bool.{Bool, true, false, cond}
 use mathlib.Core.List.{List, [], _∷_, _++_}
 use mathlib.Core.Path.{_≡_}

@@ -1,4 +1,4 @@
--- Facts of Bools and of single bits that the laws of pins, requests and marks share. Assumes nothing.
+-- Facts of Bools and of single bits that the laws of pins, requests and seen flags share. Assumes nothing.
 use mathlib.Core.Path.{_≡_, refl, sym, ap, _∙_}
 use mathlib.Core.Bool.{Bool, true, false, cond, not, _&&_, _||_, true≢false, false≢true}
 use Prim.Native.Nat.{ℕ, _-_, _%_, _^_}

@@ -13,7 +13,7 @@ pub mod PinOwners
 pub mod PinClauses
 pub mod Stored
 pub mod Counting
-pub mod Marks
+pub mod SeenByWrites
 pub mod StatusBytes
 pub mod SeenClauses
 pub mod Witness

@@ -1,4 +1,4 @@
--- The laws of marks: what a read marks, and that no other access does. Assumes nothing.
+-- The laws of what is seen: what a read makes seen, and that no other access does. Assumes nothing.
 use mathlib.Core.Path.{_≡_, refl, sym, _∙_}
 use mathlib.Core.Bool.{Bool, true, false, not, _&&_, _||_}
 use Prim.Native.Nat.{ℕ, _+_, _<_}
@@ -26,9 +26,9 @@ use Rattle.qsm.proofs.Booleans.{both, right-or, clash}
 use Rattle.qsm.proofs.StatusFlags.{scsr-bit, spif-read, modf-read, halta-read}
 use Rattle.qsm.proofs.StatusBytes.{touched, touched-at, byte-at, some-width}
 use Rattle.qsm.proofs.Stored.{state-if, write-keeps}
-use Rattle.qsm.proofs.Marks.{scsrSeen, less-seen, fall-seen, put-scsr, put-spsr}
+use Rattle.qsm.proofs.SeenByWrites.{scsrSeen, less-seen, fall-seen, put-scsr, put-spsr}
 
-record Marker (h : Half) (seen set : Module → Bool) : Type 0 where
+record Looking (h : Half) (seen set : Module → Bool) : Type 0 where
   written : (m : Module) (p : Place) (v : ℕ) (upper lower : Bool) → seen (put m p v upper lower) ≡ true → seen m ≡ true
   looked : (m : Module) (w o : ℕ) → touched h w o ≡ true → set (afterRead m w o) ≡ true → seen (afterRead m w o) ≡ true
   only :
@@ -39,43 +39,43 @@ or-second : (a b : Bool) → a ≡ false → a || b ≡ true → b ≡ true
 or-second true b g h = clash true g refl
 or-second false b g h = h
 
-mark-bit : (k : ℕ) (s : Status) → bit k (markSeen s .seen .bits) ≡ bit k (s .seen .bits) || bit k (s .flags .bits)
+seen-bit : (k : ℕ) (s : Status) → bit k (markSeen s .seen .bits) ≡ bit k (s .seen .bits) || bit k (s .flags .bits)
 unfolding markSeen
-mark-bit k s = bit-or k (s .seen .bits) (s .flags .bits)
+seen-bit k s = bit-or k (s .seen .bits) (s .flags .bits)
 
 fall-flags : (k : ℕ) (s : Status) (f : Flags) →
     bit k (fall s f .flags .bits) ≡ bit k (s .flags .bits) && not (bit k (f .bits))
 unfolding fall
 fall-flags k s f = bit-less k (s .flags .bits) (f .bits)
 
--- What of a set of flags is left has a mark, if each had.
-left-marked : (k : ℕ) (s : Status) (f : Flags) → (bit k (s .flags .bits) ≡ true → bit k (s .seen .bits) ≡ true) →
+-- What of a set of flags is left is seen, if each was.
+left-seen : (k : ℕ) (s : Status) (f : Flags) → (bit k (s .flags .bits) ≡ true → bit k (s .seen .bits) ≡ true) →
     bit k (fall s f .flags .bits) ≡ true → bit k (fall s f .seen .bits) ≡ true
-left-marked k s f all h =
+left-seen k s f all h =
     let were : bit k (s .flags .bits) && not (bit k (f .bits)) ≡ true = sym (fall-flags k s f) ∙ h in
     fall-seen k s f
     ∙ both (bit k (s .seen .bits)) (not (bit k (f .bits))) (all (and-left _ _ were)) (and-right (bit k (s .flags .bits)) _ were)
 
-all-marked : (k : ℕ) (s : Status) → bit k (markSeen s .flags .bits) ≡ true → bit k (markSeen s .seen .bits) ≡ true
+all-seen : (k : ℕ) (s : Status) → bit k (markSeen s .flags .bits) ≡ true → bit k (markSeen s .seen .bits) ≡ true
 unfolding markSeen
-all-marked k s h = bit-or k (s .seen .bits) (s .flags .bits) ∙ right-or (bit k (s .seen .bits)) (bit k (s .flags .bits)) h
+all-seen k s h = bit-or k (s .seen .bits) (s .flags .bits) ∙ right-or (bit k (s .seen .bits)) (bit k (s .flags .bits)) h
 
 scsr-looked : (k : ℕ) (low : Bool) (s : Sci) → bit k (serialRead true low s .status .flags .bits) ≡ true →
     scsrSeen k (serialRead true low s) ≡ true
 unfolding serialRead fallSeen
-scsr-looked k false s h = all-marked k (s .status) h
-scsr-looked k true s h = left-marked k (markSeen (s .status)) _ (all-marked k (s .status)) h
+scsr-looked k false s h = all-seen k (s .status) h
+scsr-looked k true s h = left-seen k (markSeen (s .status)) _ (all-seen k (s .status)) h
 
 scsr-only : (k : ℕ) (t low : Bool) (s : Sci) → scsrSeen k s ≡ false → scsrSeen k (serialRead t low s) ≡ true →
     (t ≡ true) × (bit k (s .status .flags .bits) ≡ true)
 unfolding serialRead fallSeen
 scsr-only k true true s g h =
-    (refl, or-second (scsrSeen k s) _ g (sym (mark-bit k (s .status)) ∙ less-seen k (markSeen (s .status)) _ h))
-scsr-only k true false s g h = (refl, or-second (scsrSeen k s) _ g (sym (mark-bit k (s .status)) ∙ h))
+    (refl, or-second (scsrSeen k s) _ g (sym (seen-bit k (s .status)) ∙ less-seen k (markSeen (s .status)) _ h))
+scsr-only k true false s g h = (refl, or-second (scsrSeen k s) _ g (sym (seen-bit k (s .status)) ∙ h))
 scsr-only k false true s g h = clash (scsrSeen k s) g (less-seen k (s .status) _ h)
 scsr-only k false false s g h = clash (scsrSeen k s) g h
 
-scsr : (k : ℕ) → bit k 511 ≡ true → Marker SCI (λ m. inScsr m k) (λ m. bit k (readAt m 2 0x0C))
+scsr : (k : ℕ) → bit k 511 ≡ true → Looking SCI (λ m. inScsr m k) (λ m. bit k (readAt m 2 0x0C))
 unfolding afterRead
 scsr k small =
     record {
@@ -88,21 +88,21 @@ scsr k small =
           scsr-only k (touches 0x0C 2 w o) (touches 0x0F 1 w o) (m .sci) g h in (found .0, scsr-bit k m small ∙ found .1);
     }
 
--- A flag of SPSR, g, with its mark, s: a read that touches 1F adds the one to the other.
-module _ (s g : Qspi → Bool) (marks : (q : Qspi) → s (statusRead q) ≡ s q || g q)
+-- A flag of SPSR, g, and whether it is seen, s: a read that touches 1F adds the one to the other.
+module _ (s g : Qspi → Bool) (adds : (q : Qspi) → s (statusRead q) ≡ s q || g q)
     (keeps : (q : Qspi) → g (statusRead q) ≡ g q) where
   spsr-looked : (q : Qspi) → g (queueRead true q) ≡ true → s (queueRead true q) ≡ true
   unfolding queueRead
-  spsr-looked q h = marks q ∙ right-or (s q) (g q) (sym (keeps q) ∙ h)
+  spsr-looked q h = adds q ∙ right-or (s q) (g q) (sym (keeps q) ∙ h)
 
   spsr-only : (t : Bool) (q : Qspi) → s q ≡ false → s (queueRead t q) ≡ true → (t ≡ true) × (g q ≡ true)
   unfolding queueRead
-  spsr-only true q off h = (refl, or-second (s q) (g q) off (sym (marks q) ∙ h))
+  spsr-only true q off h = (refl, or-second (s q) (g q) off (sym (adds q) ∙ h))
   spsr-only false q off h = clash (s q) off h
 
   spsr : (set : Module → Bool) → ((m : Module) → set m ≡ g (m .qspi)) →
       ((m : Module) (p : Place) (v : ℕ) (upper lower : Bool) → s (put m p v upper lower .qspi) ≡ true →
-      s (m .qspi) ≡ true) → Marker QSPI (λ m. s (m .qspi)) set
+      s (m .qspi) ≡ true) → Looking QSPI (λ m. s (m .qspi)) set
   unfolding afterRead
   spsr set is written =
       record {
@@ -113,23 +113,23 @@ module _ (s g : Qspi → Bool) (marks : (q : Qspi) → s (statusRead q) ≡ s q 
             spsr-only (touches 0x1F 1 w o) (m .qspi) off h in (found .0, is m ∙ found .1);
       }
 
-marker : (f : Flag) → Marker (half f) (λ m. isSeen m f) (λ m. isSet m f)
-marker TDRE = scsr 8 refl
-marker TC = scsr 7 refl
-marker RDRF = scsr 6 refl
-marker RAF = scsr 5 refl
-marker IDLE = scsr 4 refl
-marker OR = scsr 3 refl
-marker NF = scsr 2 refl
-marker FE = scsr 1 refl
-marker PF = scsr 0 refl
-marker SPIF =
+looking : (f : Flag) → Looking (half f) (λ m. isSeen m f) (λ m. isSet m f)
+looking TDRE = scsr 8 refl
+looking TC = scsr 7 refl
+looking RDRF = scsr 6 refl
+looking RAF = scsr 5 refl
+looking IDLE = scsr 4 refl
+looking OR = scsr 3 refl
+looking NF = scsr 2 refl
+looking FE = scsr 1 refl
+looking PF = scsr 0 refl
+looking SPIF =
     spsr spifSeen (λ q. q .spsr .flags .spif) (λ q. refl) (λ q. refl) (λ m. isSet m SPIF) spif-read
     (λ m p v upper lower. put-spsr m p v upper lower .0)
-marker MODF =
+looking MODF =
     spsr modfSeen (λ q. q .spsr .flags .modf) (λ q. refl) (λ q. refl) (λ m. isSet m MODF) modf-read
     (λ m p v upper lower. put-spsr m p v upper lower .1)
-marker HALTA =
+looking HALTA =
     spsr haltaSeen (λ q. q .spsr .flags .halta) (λ q. refl) (λ q. refl) (λ m. isSet m HALTA) halta-read
     (λ m p v upper lower. put-spsr m p v upper lower .2)
 
@@ -139,16 +139,16 @@ pub seen : (m : Module) (a : Access) (f : Flag) → SeenClauses m a f
 unfolding step does reads writes refused
 seen m (Read s w o) f =
     record {
-      marks =
+      seen =
           λ looks. state-if (λ n. isSet n f ≡ true → isSeen n f ≡ true) (permits (decideRead m s w o)) m (afterRead m w o) 0
           (readValue m w o) _
-          (λ p. marker f .looked m w o (touched-at (half f) w o (looks .byte) (looks .within) (looks .here)))
+          (λ p. looking f .looked m w o (touched-at (half f) w o (looks .byte) (looks .within) (looks .here)))
           (λ p. clash (permits (decideRead m s w o)) p (looks .permitted));
       alone =
           λ off. state-if (λ n. isSeen n f ≡ true → Looks m (Read s w o) (half f) × (isSet m f ≡ true))
           (permits (decideRead m s w o)) m (afterRead m w o) 0 (readValue m w o) _
           (λ p h.
-          let found : (touched (half f) w o ≡ true) × (isSet m f ≡ true) = marker f .only m w o off h in
+          let found : (touched (half f) w o ≡ true) × (isSet m f ≡ true) = looking f .only m w o off h in
           let b : (b : ℕ) × (b < w) × (statusByte (half f) (o + b) ≡ true) =
           byte-at (half f) w o (some-width m s w o p) (found .0) in (
             record { permitted = p; byte = b .0; within = b .1; here = b .2 },
@@ -157,12 +157,12 @@ seen m (Read s w o) f =
     }
 seen m (Write s w o v) f =
     record {
-      marks = λ looks. absurd looks;
+      seen = λ looks. absurd looks;
       alone =
           λ off h. clash (isSeen m f) off
           (state-if (λ n. isSeen n f ≡ true → isSeen m f ≡ true) (permits (decideStored m (storedBy m w o v) s w o v)) m
           (storedBy m w o v .state) 0 0 _
           (λ p.
           write-keeps (λ n. isSeen n f ≡ true → isSeen m f ≡ true)
-          (λ n place v upper lower keeps h. keeps (marker f .written n place v upper lower h)) m w o v (λ h. h)) (λ p h. h) h);
+          (λ n place v upper lower keeps h. keeps (looking f .written n place v upper lower h)) m w o v (λ h. h)) (λ p h. h) h);
     }

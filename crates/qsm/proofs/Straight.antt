@@ -42,30 +42,30 @@ pub two-words : (m : Module) (at : ℕ) →
 unfolding fetched fetch iterate
 two-words m at = rw zero-add
 
--- A read of the serial half changes SCSR and its marks alone.
-pub serial-marked : (status low : Bool) (s : Sci) →
+-- A read of the serial half changes SCSR and what of it is seen, alone.
+pub serial-seen : (status low : Bool) (s : Sci) →
     withStatus s (cond low (fallSeen (cond status (markSeen (s .status)) (s .status)) receiveFlags) (cond status (markSeen (s .status)) (s .status)))
     ≡ serialRead status low s
 unfolding serialRead
-serial-marked true true s = refl
-serial-marked true false s = refl
-serial-marked false true s = refl
-serial-marked false false s = refl
+serial-seen true true s = refl
+serial-seen true false s = refl
+serial-seen false true s = refl
+serial-seen false false s = refl
 
--- A read of the queue half changes the marks of SPSR alone.
-pub queue-marked : (status : Bool) (q : Qspi) →
+-- A read of the queue half changes what of SPSR is seen, alone.
+pub queue-seen : (status : Bool) (q : Qspi) →
     withSpsr q (cond status (flagsSeen (q .spsr)) (q .spsr)) ≡ queueRead status q
 unfolding queueRead
-queue-marked true q = refl
-queue-marked false q = refl
+queue-seen true q = refl
+queue-seen false q = refl
 
--- What a read leaves that was decided, by what it marks: nothing where it isn't permitted.
-abbrev pub marked : Module → Bool → Bool → Bool → Module
-marked m status low queue = withQspi (withSci m (serialRead status low (m .sci))) (queueRead queue (m .qspi))
+-- What a read leaves that was decided, by what it makes seen: nothing where it isn't permitted.
+abbrev pub seenBy : Module → Bool → Bool → Bool → Module
+seenBy m status low queue = withQspi (withSci m (serialRead status low (m .sci))) (queueRead queue (m .qspi))
 
 pub read-straight : (d : Decision) (m : Module) (width offset : ℕ) →
     done
-    (marked m (permits d && touches 0x0C 2 width offset) (permits d && touches 0x0F 1 width offset)
+    (seenBy m (permits d && touches 0x0C 2 width offset) (permits d && touches 0x0F 1 width offset)
     (permits d && touches 0x1F 1 width offset))
     (refusalOf d) (cond (permits d) (readValue m width offset) 0)
     ≡ readDecided d m width offset

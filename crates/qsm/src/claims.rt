@@ -1,4 +1,4 @@
-// What is shown of the definitions of pins, requests, marks and registers: document 01's sentences.
+// What is shown of the definitions of pins, requests, seen flags and registers: document 01's sentences.
 ghost use mathlib.Core.Path.{_≡_};
 ghost use mathlib.Core.Bool.{true};
 ghost use Rattle.qsm.specs.claims.Claims.{Claims};

@@ -63,7 +63,7 @@ pub(crate) fn queue_held(q: Qspi, n: u32, pins: Pins) -> QueueHeld
 }
 
 // Clocks before a sample, and the clock of one that changes nothing, change the prescaler's count alone.
-// Ruled out: a line at rest with a word waiting; a sample that leaves the count.
+// Ruled out: a transmitter at rest with a word waiting; a sample that leaves the count.
 pub(crate) fn serial_held(s: Sci, n: u32, rxd: bool) -> SerialHeld
     ensures { λ r. ⌜ (r .short ≡ true → withCount s (r .count) ≡ iterate n (λ s. clocked s rxd) s) ⌝ }
 {

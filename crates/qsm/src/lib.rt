@@ -3,6 +3,7 @@
 pub mod access;
 mod claims;
 pub mod decision;
+mod doing;
 pub mod event;
 mod holding;
 mod holds;

@@ -1,4 +1,5 @@
-// A read in straight code, for hosts that poll: its words without a loop, its marks in the two status registers alone.
+// A read once more in straight code, for hosts that poll: its words without a loop, what it makes seen in the two status registers alone. Traces have
+// `reads` instead: code of this size is compiled in line only where it has one caller, and out of line it copies the whole module.
 ghost use mathlib.Core.Path.{_≡_};
 ghost use mathlib.Core.Bool.{cond};
 ghost use Rattle.sci.specs.model.Flags.{receiveFlags};
@@ -10,9 +11,14 @@ ghost use Rattle.qsm.specs.model.Lanes.{halves};
 ghost use Rattle.qsm.specs.model.Access.{fetched};
 ghost use Rattle.qsm.specs.model.Serial.{serialRead};
 ghost use Rattle.qsm.specs.model.Queue.{queueRead};
-ghost use Rattle.qsm.specs.model.Event.{readValue};
+ghost use Rattle.qsm.specs.model.Event.{readValue, readDecided, reads};
 use crate::access::next;
+use crate::decision::Decision;
+use crate::decision::permits;
+use crate::decision::refusal_of;
+use crate::event::Done;
 use crate::lanes::lane;
+use crate::lanes::touches;
 use crate::lanes::upper_lane;
 use crate::map::Place;
 use crate::map::decode;
@@ -42,8 +48,7 @@ fn spsr_seen(s: Spsr, status: bool) -> Spsr
 }
 
 impl Module {
-    // A word, by its place. It is written out for each word of an access: a function of its size is compiled in line only where it has one
-    // caller, and out of line it takes the whole module.
+    // A word, by its place: `peek`, written out for each word of an access.
     fn first_word(self, p: Place) -> u16
         ensures { λ r. ⌜ r ≡ peek self p ⌝ }
     {
@@ -85,7 +90,7 @@ impl Module {
 
     // What a read gives, where it is permitted; else 0.
     // Ruled out: a value for a blocked user; a long's first word alone.
-    pub fn value_if(self, permitted: bool, width: u8, offset: u16) -> u32
+    fn value_if(self, permitted: bool, width: u8, offset: u16) -> u32
         ensures { λ r. ⌜ r ≡ cond permitted (readValue self width offset) 0 ⌝ }
     {
         if permitted {
@@ -96,8 +101,8 @@ impl Module {
     }
 
     // What a read leaves that touches SCSR, SCDR's low byte or SPSR: no other field changes.
-    // Ruled out: RDRF left set after a read of both; a read of SPSR that marks SCSR.
-    pub fn marked(mut self, status: bool, low: bool, queue: bool) -> Module
+    // Ruled out: RDRF left set after a read of both; a read of SPSR that makes SCSR seen.
+    fn flags_seen(mut self, status: bool, low: bool, queue: bool) -> Module
         ensures { λ r. ⌜ r ≡ withQspi (withSci self (serialRead status low (self .sci))) (queueRead queue (self .qspi)) ⌝ }
     {
         let mut sci = self.sci;
@@ -109,5 +114,25 @@ impl Module {
         self.sci = sci;
         self.qspi = qspi;
         self
+    }
+
+    fn polled(self, d: Decision, width: u8, offset: u16) -> Done
+        ensures { λ r. ⌜ r ≡ readDecided d self width offset ⌝ }
+    {
+        let permitted = permits(d);
+        let value = self.value_if(permitted, width, offset);
+        let state = self.flags_seen(
+            permitted & touches(0x0C, 2, width, offset),
+            permitted & touches(0x0F, 1, width, offset),
+            permitted & touches(0x1F, 1, width, offset),
+        );
+        state.done(refusal_of(d), value)
+    }
+
+    pub(crate) fn polls(self, supervisor: bool, width: u8, offset: u16) -> Done
+        ensures { λ r. ⌜ r ≡ reads self supervisor width offset ⌝ }
+    {
+        let decided = self.decide_read(supervisor, width, offset);
+        self.polled(decided, width, offset)
     }
 }

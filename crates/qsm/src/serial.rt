@@ -19,7 +19,7 @@ pub fn peek_serial(s: Sci, w: SerialWord) -> u16
 }
 
 // What a read leaves that touches SCSR, SCDR's low byte, or both: status, then data.
-// Ruled out: RDRF left set after both; a status read that marks nothing.
+// Ruled out: RDRF left set after both; a status read that makes nothing seen.
 pub fn serial_read(s: Sci, status: bool, low: bool) -> Sci
     ensures { λ r. ⌜ r ≡ serialRead status low s ⌝ }
 {

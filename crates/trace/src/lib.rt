@@ -3,14 +3,14 @@ ghost use mathlib.Core.Path.{_≡_};
 ghost use mathlib.Core.List.{_++_};
 ghost use Prim.Native.Nat.{_≤_};
 ghost use lib.ListN.{length, drop};
-ghost use Rattle.trace.specs.Trace.{long, supervisorOf, widthOf, holdRecord, longHoldRecord, readRecord, writeRecord, parsed, answerLength, answerBytes};
+ghost use Rattle.trace.specs.Trace.{parsed, answerLength, answerBytes};
 ghost use Rattle.trace.specs.Play.{stopNumber, refusalOf, play, Plays};
-use qsm::event::Access;
 use qsm::event::Answer;
 use qsm::event::Event;
 use qsm::state::Module;
 
 mod claims;
+mod fields;
 pub mod refusals;
 
 // What stands at the start of a rest of a trace: an event and the position past its record, or why there is none.
@@ -54,69 +54,6 @@ pub const ANSWER_LENGTH: usize = answers::CLOCKED_LENGTH;
 // The refusal of a hold that would pass 2^64 - 1 clocks.
 const CLOCK_LIMIT: u8 = 10;
 
-fn long(high: u16, low: u16) -> u32
-    ensures { λ r. ⌜ r ≡ long high low ⌝ }
-{
-    (high as u32) * 65536 + (low as u32)
-}
-
-fn supervisor(b: u8) -> bool
-    ensures { λ r. ⌜ r ≡ supervisorOf b ⌝ }
-{
-    128 <= b
-}
-
-fn width(b: u8) -> u8
-    ensures { λ r. ⌜ r ≡ widthOf b ⌝ }
-{
-    b % 128
-}
-
-fn hold(rest: &[u8]) -> Parsed
-    ensures { λ r. ⌜ r ≡ holdRecord (now (rest .entry)) ⌝ }
-{
-    if rest.len() < 5 {
-        return Parsed::Cut;
-    }
-    let clocks = steps::word(rest[3], rest[4]);
-    Parsed::Record(Event::Hold(rest[1], rest[2] != 0, clocks as u32), 5)
-}
-
-fn long_hold(rest: &[u8]) -> Parsed
-    ensures { λ r. ⌜ r ≡ longHoldRecord (now (rest .entry)) ⌝ }
-{
-    if rest.len() < 7 {
-        return Parsed::Cut;
-    }
-    let clocks = long(steps::word(rest[3], rest[4]), steps::word(rest[5], rest[6]));
-    Parsed::Record(Event::Hold(rest[1], rest[2] != 0, clocks), 7)
-}
-
-fn read(rest: &[u8]) -> Parsed
-    ensures { λ r. ⌜ r ≡ readRecord (now (rest .entry)) ⌝ }
-{
-    if rest.len() < 4 {
-        return Parsed::Cut;
-    }
-    let b = rest[1];
-    let offset = steps::word(rest[2], rest[3]);
-    let a = Access::Read(supervisor(b), width(b), offset);
-    Parsed::Record(Event::Access(a), 4)
-}
-
-fn write(rest: &[u8]) -> Parsed
-    ensures { λ r. ⌜ r ≡ writeRecord (now (rest .entry)) ⌝ }
-{
-    if rest.len() < 8 {
-        return Parsed::Cut;
-    }
-    let b = rest[1];
-    let offset = steps::word(rest[2], rest[3]);
-    let value = long(steps::word(rest[4], rest[5]), steps::word(rest[6], rest[7]));
-    let a = Access::Write(supervisor(b), width(b), offset, value);
-    Parsed::Record(Event::Access(a), 8)
-}
-
 // The record at the start of a rest of a trace.
 // Ruled out: a cut record of an unknown kind that is 6; a low byte lost; a user taken for a supervisor; a long hold of its low word.
 pub fn parse(rest: &[u8]) -> Parsed
@@ -130,16 +67,16 @@ pub fn parse(rest: &[u8]) -> Parsed
         return Parsed::Record(Event::Reset, 1);
     }
     if kind == HOLD {
-        return hold(rest);
+        return fields::hold(rest);
     }
     if kind == READ {
-        return read(rest);
+        return fields::read(rest);
     }
     if kind == WRITE {
-        return write(rest);
+        return fields::write(rest);
     }
     if kind == LONG_HOLD {
-        return long_hold(rest);
+        return fields::long_hold(rest);
     }
     Parsed::Unknown
 }

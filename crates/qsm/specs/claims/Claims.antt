@@ -1,4 +1,4 @@
--- What a host sees of pins, requests, marks and registers, over every module and every event: document 01's sentences, beside the
+-- What a host sees of pins, requests, seen flags and registers, over every module and every event: document 01's sentences, beside the
 -- definitions that compute them.
 use Rattle.qsm.specs.model.Event.{step}
 use Rattle.qsm.specs.claims.StatusFlags.{Flag}

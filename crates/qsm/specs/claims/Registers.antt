@@ -1,5 +1,6 @@
--- Document 01, Register map, as a host sees it: the map's own numbers, and what a supervisor's reads and writes answer. No definition that
--- makes, keeps or finds a register is cited, so that none can be wrong unnoticed: all is said of the answers of `step`.
+-- Document 01, Register map, as a host sees it: the map's own numbers, and what a supervisor's reads and writes answer, so that no definition that
+-- makes, keeps or finds a register can be wrong unnoticed. What no answer shows is said of the state: that a frame runs (`AtRest`), the sizes of
+-- fields (`Sized`), and the word of which SCDR shows nine bits (`NineBits`).
 use mathlib.Core.Path.{_≡_}
 use mathlib.Core.Bool.{Bool, true, false, cond, _&&_, _||_}
 use mathlib.Core.List.{List, [], _∷_}

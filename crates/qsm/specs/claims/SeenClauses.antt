@@ -1,4 +1,4 @@
--- Document 01, Flags: which accesses mark a status flag as seen (the paper's word).
+-- Document 01, Flags: which accesses make a status flag seen (the paper's word).
 use mathlib.Core.Path.{_≡_}
 use mathlib.Core.Bool.{Bool, true, false, _||_}
 use Prim.Native.Nat.{ℕ, _+_, _<_}
@@ -13,7 +13,7 @@ use Rattle.qsm.specs.declared.event.Access.{Access}
 use Rattle.qsm.specs.declared.event.Access.the-variants.{Read, Write}
 use Rattle.qsm.specs.declared.event.Event.the-variants as event
 
--- The marks of SPSR's flags.
+-- Whether SPSR's flags are seen.
 abbrev pub spifSeen : Qspi → Bool
 spifSeen q = q .spsr .seen .spif
 
@@ -23,7 +23,7 @@ modfSeen q = q .spsr .seen .modf
 abbrev pub haltaSeen : Qspi → Bool
 haltaSeen q = q .spsr .seen .halta
 
--- A flag of SCSR is marked at its own bit.
+-- A flag of SCSR is seen at its own bit.
 abbrev pub inScsr : Module → ℕ → Bool
 inScsr m k = bit k (m .sci .status .seen .bits)
 
@@ -62,7 +62,7 @@ abbrev pub after : Module → Access → Module
 after m a = step m (event.Access a) .state
 
 pub record SeenClauses (m : Module) (a : Access) (f : Flag) : Type 0 where
-  -- A read of the status register marks as seen every flag then set: after it, each that is still set is seen.
-  pub marks : Looks m a (half f) → isSet (after m a) f ≡ true → isSeen (after m a) f ≡ true
-  -- No other access marks a flag, and none that wasn't set.
+  -- A read of the status register makes seen every flag then set: after it, each that is still set is seen.
+  pub seen : Looks m a (half f) → isSet (after m a) f ≡ true → isSeen (after m a) f ≡ true
+  -- No other access makes a flag seen, and none that wasn't set.
   pub alone : isSeen m f ≡ false → isSeen (after m a) f ≡ true → Looks m a (half f) × (isSet m f ≡ true)

@@ -1,4 +1,4 @@
--- The laws of pins, requests and marks are about something: modules, from a reset on, that meet their hypotheses.
+-- The laws of pins, requests and seen flags are about something: modules, from a reset on, that meet their hypotheses.
 use mathlib.Core.Path.{_≡_}
 use mathlib.Core.Bool.{true}
 use mathlib.Core.List.{List, [], _∷_}

@@ -1,7 +1,7 @@
 use borrow.Author.Tests.{lt-ltb, le-ltb}
 use borrow.Author.Needs.{needs}
-use Rattle.trace.proofs.write.Statement.{statement}
-use Rattle.trace.proofs.write.Tie as tie
+use Rattle.trace.proofs.fields.write.Statement.{statement}
+use Rattle.trace.proofs.fields.write.Tie as tie
 
 returns : tie.Need-returns
 returns c = simp (lt-ltb _ _ (c .if1 .taken))

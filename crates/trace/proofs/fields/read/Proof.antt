@@ -1,7 +1,7 @@
 use borrow.Author.Tests.{lt-ltb, le-ltb}
 use borrow.Author.Needs.{needs}
-use Rattle.trace.proofs.read.Statement.{statement}
-use Rattle.trace.proofs.read.Tie as tie
+use Rattle.trace.proofs.fields.read.Statement.{statement}
+use Rattle.trace.proofs.fields.read.Tie as tie
 
 returns : tie.Need-returns
 returns c = simp (lt-ltb _ _ (c .if1 .taken))

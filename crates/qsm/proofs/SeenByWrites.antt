@@ -1,4 +1,4 @@
--- No write of a word marks a flag as seen. Assumes nothing.
+-- No write of a word makes a flag seen. Assumes nothing.
 use mathlib.Core.Path.{_≡_, refl, sym, ap, _∙_}
 use mathlib.Core.Bool.{Bool, true, false, not, _&&_}
 use Prim.Native.Nat.{ℕ}
@@ -32,7 +32,7 @@ use Rattle.qsm.proofs.Stored.{own-keeps}
 
 -- ---- SCSR
 
--- A flag that falls loses its mark, and none gains one.
+-- A flag that falls is seen no more, and no other becomes so.
 pub fall-seen : (k : ℕ) (s : Status) (f : Flags) →
     bit k (fall s f .seen .bits) ≡ bit k (s .seen .bits) && not (bit k (f .bits))
 unfolding fall
@@ -65,7 +65,7 @@ serial-seen k s Scdr v upper false h = h
 
 -- ---- SPSR
 
--- No mark more.
+-- No flag more is seen.
 abbrev pub NoMore : Qspi → Qspi → Type 0
 NoMore q r =
     (spifSeen r ≡ true → spifSeen q ≡ true) × (modfSeen r ≡ true → modfSeen q ≡ true)
