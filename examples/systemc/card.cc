@@ -187,6 +187,7 @@ int sc_main(int argc, char **argv)
         std::fprintf(stderr, "usage: card MICROSECONDS [FILES]\n");
         return 2;
     }
+    sc_core::sc_report_handler::set_actions("/OSCI/SystemC", sc_core::SC_INFO, sc_core::SC_DO_NOTHING); // that sc_stop was called
     Sender sender("sender");
     Converter x("X", Pin::pcs0), y("Y", Pin::pcs1);
     Cpu cpu("cpu", static_cast<unsigned>(microseconds));
