@@ -1,0 +1,5 @@
+pub mod Numbers
+pub mod Formed
+pub mod Bytes
+pub mod Users
+pub mod Reading
