@@ -26,9 +26,9 @@ use Rattle.qsm.proofs.PinClauses.{pins}
 use Rattle.qsm.proofs.Requests.{requests}
 use Rattle.claims_registers.specs.Formed.{Formed}
 use Rattle.claims_registers.specs.Reading.{output, Driven, PortWritten, levelOf, vectorOf, Asking, Requested, ShownBy}
-use Rattle.claims_registers.proofs.Numbers.{merged-upper, merged-lower}
+use Rattle.claims_registers.proofs.Masked.{merged-upper, merged-lower}
 use Rattle.claims_registers.proofs.Formed.{keeps}
-use Rattle.claims_registers.proofs.Bytes.{byte-put}
+use Rattle.claims_registers.proofs.Lanes.{byte-put}
 
 module _ (m : Module) (f : Formed m) where
   at-04 : reading m 1 0x04 .value ≡ m .qilr

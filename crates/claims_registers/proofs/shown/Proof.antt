@@ -2,7 +2,9 @@ use mathlib.Core.Path.{refl}
 use Rattle.claims_registers.proofs.shown.Statement.{statement}
 use Rattle.claims_registers.proofs.shown.Tie as tie
 use Rattle.claims_registers.proofs.Formed.{keeps}
-use Rattle.claims_registers.proofs.Bytes.{bytes-back, halt-byte, byte-14}
+use Rattle.claims_registers.proofs.Bytes.{bytes-back}
+use Rattle.claims_registers.proofs.OwnBytes.{byte-14}
+use Rattle.claims_registers.proofs.QueueBytes.{halt-byte}
 use Rattle.claims_registers.proofs.Users.{users-are}
 use Rattle.claims_registers.proofs.Reading.{shown-by}
 
