@@ -1,0 +1,3 @@
+pub mod Silent
+pub mod Moments
+pub mod Claims

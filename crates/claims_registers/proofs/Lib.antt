@@ -1,0 +1,10 @@
+pub mod Numbers
+pub mod Masked
+pub mod Formed
+pub mod Lanes
+pub mod OwnBytes
+pub mod SerialBytes
+pub mod QueueBytes
+pub mod Bytes
+pub mod Users
+pub mod Reading

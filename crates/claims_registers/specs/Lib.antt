@@ -1,0 +1,5 @@
+pub mod Formed
+pub mod Bytes
+pub mod Users
+pub mod Reading
+pub mod Claims
