@@ -52,7 +52,7 @@ pub record Stands (e : Edition) (rs : List Record) : Type 0 where
   pub order : Ascending 0 rs
   pub found : latest false (e .number) rs ≡ given e
 
-not-missing : (e : Edition) → missing 8 ≡ given e → ⊥
+pub not-missing : (e : Edition) → missing 8 ≡ given e → ⊥
 not-missing e h = let z : _≡_ {A = ℕ} 8 0 = ap (λ (g : Given). g .refusal) h in omega arith
 
 stands-behind : (e : Edition) (rs : List Record) (r : Record) → Stands e rs → Keeps (e .number) r → refusalOf rs true r ≡ 0 → Stands e (rs ++ (r ∷ []))
@@ -96,7 +96,7 @@ record Gone (n : ℕ) (rs : List Record) : Type 0 where
   below : n ≤ lastFrom 0 rs
   lost : latest false n rs ≡ missing 8
 
-by-same : (n m : ℕ) (rs : List Record) → latest false n rs ≡ missing 8 → (t : Bool) → eqb m n ≡ t → latest false n (rs ++ (Withdrawn m ∷ [])) ≡ missing 8
+pub by-same : (n m : ℕ) (rs : List Record) → latest false n rs ≡ missing 8 → (t : Bool) → eqb m n ≡ t → latest false n (rs ++ (Withdrawn m ∷ [])) ≡ missing 8
 by-same n m rs lost true is = rw (eqb-true m n is) (withdrawn-last n (missing 8) rs)
 by-same n m rs lost false is = other-withdrawn n m (eqb-false m n is) (missing 8) rs ∙ lost
 
@@ -110,7 +110,7 @@ gone-behind n rs (Added f) g fits ok =
 gone-behind n rs (Withdrawn m) g fits ok =
     record { below = rw (last-behind 0 rs (Withdrawn m)) (g .below); lost = by-same n m rs (g .lost) (eqb m n) refl }
 
-standing-below : (n : ℕ) (rs : List Record) → Ascending 0 rs → latest false n rs .refusal ≡ 0 → (t : Bool) → leb n (lastFrom 0 rs) ≡ t → n ≤ lastFrom 0 rs
+pub standing-below : (n : ℕ) (rs : List Record) → Ascending 0 rs → latest false n rs .refusal ≡ 0 → (t : Bool) → leb n (lastFrom 0 rs) ≡ t → n ≤ lastFrom 0 rs
 standing-below n rs a found true is = leb-true n (lastFrom 0 rs) is
 standing-below n rs a found false is =
     let none-there = above-last 0 n (missing 8) rs a (leb-false n (lastFrom 0 rs) is) in

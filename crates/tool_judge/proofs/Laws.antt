@@ -94,7 +94,7 @@ names x y k f false t p q e =
     let is : Wrong (firstWrong x y) (wrongIn x y (firstWrong x y)) ≡ Wrong k f = rw (p) at e in
     (cc, λ h. eqb-false _ _ p (sym (ap (alike x) h) ∙ alike-self x))
 
-same-start : (k : ℕ) (x y : List ℕ) → k ≤ alike x y → take k x ≡ take k y
+pub same-start : (k : ℕ) (x y : List ℕ) → k ≤ alike x y → take k x ≡ take k y
 unfolding alike
 same-start zero x y h = refl
 same-start (suc k) [] y h = absurd (omega (arith, h))
@@ -108,7 +108,7 @@ same-start (suc k) (a ∷ x) (b ∷ y) h = go (eqb a b) refl (same-start k x y) 
 heads : {a b : ℕ} {x y : List ℕ} → a ∷ x ≡ b ∷ y → (a ≡ b) × (x ≡ y)
 heads e = (cc, cc)
 
-further-on : (n : ℕ) (x y : List ℕ) → take n x ≡ take n y → (n ≤ alike x y) ⊎ (x ≡ y)
+pub further-on : (n : ℕ) (x y : List ℕ) → take n x ≡ take n y → (n ≤ alike x y) ⊎ (x ≡ y)
 unfolding alike
 further-on zero x y e = inl (omega arith)
 further-on (suc n) [] [] e = inr refl
@@ -141,13 +141,13 @@ stop-told t log = refl
 
 -- ---- parts
 
-flatten-both : (p q : List (List ℕ)) → length (flatten (p ++ q)) ≡ length (flatten p) + length (flatten q)
+pub flatten-both : (p q : List (List ℕ)) → length (flatten (p ++ q)) ≡ length (flatten p) + length (flatten q)
 unfolding flatten
 flatten-both [] q = omega arith
 flatten-both (r ∷ p) q = omega (arith, flatten-both p q, length-append r (flatten (p ++ q)), length-append r (flatten p))
 
 -- A record has at least a byte.
-a-byte-each : (m : Module) (t : List ℕ) (room : ℕ) → length (play m t room .records) ≤ length (flatten (play m t room .records))
+pub a-byte-each : (m : Module) (t : List ℕ) (room : ℕ) → length (play m t room .records) ≤ length (flatten (play m t room .records))
 unfolding flatten
 a-byte-each =
     played reader (λ m t room o. length (o .records) ≤ length (flatten (o .records))) (λ m t room why end. omega arith)

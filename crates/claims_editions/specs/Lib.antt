@@ -1,0 +1,4 @@
+pub mod History
+pub mod Faults
+pub mod Cases
+pub mod Claims

@@ -1,0 +1,4 @@
+pub mod Walk
+pub mod Marks
+pub mod Cases
+pub mod Claims

@@ -1,0 +1,9 @@
+-- Document 02, L8: all that is shown of the schedule here.
+use Rattle.claims_schedule.specs.Polls.{PollsOnTime}
+use Rattle.claims_schedule.specs.Stops.{Reads, Writes, CallRefusals}
+
+pub record Claims : Type 0 where
+  pub polls-on-time : PollsOnTime
+  pub reads : Reads
+  pub writes : Writes
+  pub call-refusals : CallRefusals

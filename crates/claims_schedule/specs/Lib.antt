@@ -1,0 +1,3 @@
+pub mod Polls
+pub mod Stops
+pub mod Claims
