@@ -7,3 +7,4 @@ pub mod Delivering
 pub mod Start
 pub mod Paused
 pub mod Arriving
+pub mod Telling

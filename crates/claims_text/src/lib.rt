@@ -4,6 +4,7 @@ ghost use mathlib.Core.Path.{_≡_};
 ghost use Rattle.claims_text.specs.Text.{TextWords};
 ghost use Rattle.claims_text.specs.Lines.{TextLines};
 ghost use Rattle.claims_text.specs.Through.{TextThrough};
+ghost use Rattle.claims_text.specs.Told.{RatesTold};
 
 // For every history that leaves a receiver ready, and every text as `assemble` makes holds of it, within the rate's bounds: replayed with polls
 // no more than 148 samples apart, the words that come are the text's bytes, in order, and no frame is lost.
@@ -28,6 +29,15 @@ pub fn text_lines() -> bool
 // Ruled out: a line lost, changed or told twice on the way from RXD's edges to the caller; a last word that is never delivered.
 pub fn text_through() -> bool
     ensures { λ r. ⌜ (r ≡ true) × TextThrough ⌝ }
+{
+    true
+}
+
+// What `tool_rates` tells of settings and rates is what the theorems ask: its deadlines are theirs, and frames at a rate that it calls heard are fair,
+// with 8 data bits and with 9.
+// Ruled out: a deadline that a frame is lost at; a rate called heard at which a word comes wrong.
+pub fn rates_told() -> bool
+    ensures { λ r. ⌜ (r ≡ true) × RatesTold ⌝ }
 {
     true
 }
