@@ -124,7 +124,7 @@ none-lost period t none =
 
 -- ---- a first part and the rest
 
-events-joined : (xs ys : List Act) (m : Module) → eventsOf (xs ++ ys) m ≡ eventsOf xs m ++ eventsOf ys (run (eventsOf xs m) m)
+pub events-joined : (xs ys : List Act) (m : Module) → eventsOf (xs ++ ys) m ≡ eventsOf xs m ++ eventsOf ys (run (eventsOf xs m) m)
 unfolding eventsOf run
 events-joined [] ys m = refl
 events-joined (plays e ∷ xs) ys m = ap (λ (es : List Event). e ∷ es) (events-joined xs ys (after e m))

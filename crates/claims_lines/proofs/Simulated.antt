@@ -30,7 +30,7 @@ use Rattle.claims_lines.proofs.Gathering.{Agrees, word-noticed, none-no
 use Rattle.claims_lines.proofs.Polls.{quiet-polled, quiet-events, quiet-happened, quiet-slot, quiet-shows, word-polled, word-events, word-happened, word-slot, word-shows}
 use Rattle.claims_lines.proofs.Played.{Untouched, untouched, reset-slot}
 
-happened-joined : (es fs : List Event) (m : Module) → happened (es ++ fs) m ≡ happened es m ++ happened fs (run es m)
+pub happened-joined : (es fs : List Event) (m : Module) → happened (es ++ fs) m ≡ happened es m ++ happened fs (run es m)
 unfolding run happened
 happened-joined [] fs m = refl
 happened-joined (e ∷ es) fs m =
@@ -111,7 +111,7 @@ unfolding account
 done-reset out a none h k = record { reports = k .reports; turn = k .turn }
 done-reset out a (some w) h k = record { reports = k .reports; turn = k .turn }
 
-hold-slot : (pins : ℕ) (rxd : Bool) (n : ℕ) (m : Module) → slotOf (after (Hold pins rxd n) m .sci) ≡ slotOf (sci.run (clocks (playedClocks m n) rxd) (m .sci))
+pub hold-slot : (pins : ℕ) (rxd : Bool) (n : ℕ) (m : Module) → slotOf (after (Hold pins rxd n) m .sci) ≡ slotOf (sci.run (clocks (playedClocks m n) rxd) (m .sci))
 hold-slot pins rxd n m = ap slotOf (follows (Hold pins rxd n) m)
 
 poll-left : (m : Module) (v : Slot) (l : Line) (a : Account) (q : Option ℕ) → slotOf (m .sci) ≡ v → Stands v l a q →

@@ -14,14 +14,14 @@ use Rattle.claims_senders.specs.Clocks.{sampledAt, SampledAs, ClocksHear
 use Rattle.claims_senders.proofs.Whole.{frames-are-heard}
 
 -- m clocks of a level, from a count p: u samples, and a count p′.
-record Stretch (s p m : ℕ) (x : Bool) : Type 0 where
-  u : ℕ
-  p′ : ℕ
-  small : p′ < s
-  sum : p + m ≡ u * s + p′
-  same : (ys : List Bool) → sampledAt s p (replicate m x ++ ys) ≡ replicate u x ++ sampledAt s p′ ys
+pub record Stretch (s p m : ℕ) (x : Bool) : Type 0 where
+  pub u : ℕ
+  pub p′ : ℕ
+  pub small : p′ < s
+  pub sum : p + m ≡ u * s + p′
+  pub same : (ys : List Bool) → sampledAt s p (replicate m x ++ ys) ≡ replicate u x ++ sampledAt s p′ ys
 
-stretch : (s p m : ℕ) (x : Bool) → p < s → Stretch s p m x
+pub stretch : (s p m : ℕ) (x : Bool) → p < s → Stretch s p m x
 unfolding sampledAt
 stretch s p zero x h = record { u = 0; p′ = p; small = h; sum = omega arith; same = λ ys. refl }
 stretch s p (suc m) x h = go (λ q k. stretch s q m x k) (leb s (p + 1)) refl

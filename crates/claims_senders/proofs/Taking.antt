@@ -23,7 +23,7 @@ use Rattle.claims_senders.proofs.Sampled.{clocks-heard}
 use Rattle.claims_senders.proofs.Steady.{Same, same-scdr, still-on, due-now, turns, takes-it, sample-on, count-on, same-write0, same-write1, same-read}
 
 -- What is heard of levels from a state on.
-abbrev heardFrom : Sci → ℕ → List Bool → List Frame
+abbrev pub heardFrom : Sci → ℕ → List Bool → List Frame
 heardFrom s k xs =
     frames
     (endedIn (bitsOf (M (s .sccr1))) k (s .receiver .last1) (s .receiver .last2) (s .receiver .last3) (s .receiver .framer)
@@ -39,7 +39,7 @@ same-heard s r k xs h =
         frames (endedIn n k a b c f (sampledAt (2 * SCBR v) p xs)) ≡ heardFrom s k xs
     go f a b c v p n e₁ e₂ e₃ e₄ e₅ e₆ e₇ = rw (e₁, e₂, e₃, e₄, e₅, e₆, e₇)
 
-abbrev Hears : List Step → Type 0
+abbrev pub Hears : List Step → Type 0
 Hears es = (t : Sci) (k : ℕ) → On t → StaysAwake es t → takenIn es t ≡ heardFrom t k (rxdIn es)
 
 -- A step that brings no sample.
@@ -95,7 +95,7 @@ one-step (writesSccr0 v upper lower) es ih s k o h = quiet es s _ k ih o (same-w
 one-step (writesSccr1 v upper lower) es ih s k o h = quiet es s _ k ih o (same-write1 s v upper lower o (h .1)) (h .1) (h .2) (h .3)
 one-step (writesScdr v upper lower) es ih s k o h = quiet es s _ k ih o (same-scdr lower s v upper) (h .1) (h .2) (h .3)
 
-hears : (es : List Step) → Hears es
+pub hears : (es : List Step) → Hears es
 unfolding takenIn rxdIn sampledAt endedIn frames
 hears [] s k o h = refl
 hears (e ∷ es) s k o h = one-step e es (hears es) s k o h

@@ -36,12 +36,12 @@ use Rattle.claims_senders.proofs.Steady.{due-now, turns, takes-it, on-s
 use Rattle.claims_senders.proofs.Taking.{taken}
 
 -- A frame that does no damage, with the settings of c.
-record Good (c : ℕ) (f : Frame) : Type 0 where
-  noise : f .noise ≡ 0
-  stop : f .stop ≡ true
-  parity : PE c && parityBit (PT c) (f .word) ≡ false
+pub record Good (c : ℕ) (f : Frame) : Type 0 where
+  pub noise : f .noise ≡ 0
+  pub stop : f .stop ≡ true
+  pub parity : PE c && parityBit (PT c) (f .word) ≡ false
 
-AllGood : ℕ → List Frame → Type 0
+unfoldable pub AllGood : ℕ → List Frame → Type 0
 AllGood c [] = Unit {0}
 AllGood c (f ∷ fs) = Good c f × AllGood c fs
 
@@ -69,7 +69,7 @@ good-settings c d (f ∷ fs) e h =
       good-settings c d fs e (h .1),
     )
 
-good-sent : (c : ℕ) (fs : List SentFrame) → RightParity c fs → AllGood c (asSent fs)
+pub good-sent : (c : ℕ) (fs : List SentFrame) → RightParity c fs → AllGood c (asSent fs)
 unfolding AllGood asSent RightParity
 good-sent c [] h = tt
 good-sent c (f ∷ fs) h = (record { noise = refl; stop = refl; parity = h .0 }, good-sent c fs (h .1))
@@ -217,7 +217,7 @@ unfoldable pub Always : List Step → Sci → Type 0
 Always [] s = Unit {0}
 Always (e ∷ es) s = Undamaged (step e s) × Always es (step e s)
 
-goes-on : (es : List Step) (s : Sci) → On s → StaysAwake es s → AllGood (s .sccr1) (takenIn es s) → Undamaged s → Always es s
+pub goes-on : (es : List Step) (s : Sci) → On s → StaysAwake es s → AllGood (s .sccr1) (takenIn es s) → Undamaged s → Always es s
 unfolding StaysAwake takenIn Always
 goes-on [] s o h g u = tt
 goes-on (e ∷ es) s o h g u =

@@ -1,3 +1,10 @@
 pub mod Held
 pub mod Sending
 pub mod Accounted
+pub mod Ones
+pub mod Serving
+pub mod Delivering
+pub mod Start
+pub mod Paused
+pub mod Arriving
+pub mod Telling

@@ -35,7 +35,7 @@ use Rattle.claims_through.proofs.Levels.{act-levels}
 use Rattle.claims_through.proofs.Polls.{Kept, quiet-stays}
 use Rattle.claims_through.proofs.Meeting.{begun}
 use Rattle.claims_text.specs.Text.{Bytes, bitsOfByte, byteFrame, textFrames, InReach, sender, text, Met, TextWords}
-use Rattle.claims_text.proofs.Held.{Sendable, Both, text-as}
+use Rattle.claims_text.proofs.Held.{Sendable, Both, text-both}
 
 low-eight : (b : ℕ) → bitsOfByte b ≡ lowBits 8 b
 unfolding lowBits
@@ -69,24 +69,20 @@ low-eight b =
     e₇ : b / 2 ^ 7 ≡ b / 2 / 2 / 2 / 2 / 2 / 2 / 2
     e₇ = omega arith
 
-byte-word : (b : ℕ) → b < 256 → value (bitsOfByte b) ≡ b
+pub byte-word : (b : ℕ) → b < 256 → value (bitsOfByte b) ≡ b
 byte-word b h = let w : b % 2 ^ 8 ≡ b = omega (arith, h) in ap value (low-eight b) ∙ value-low 8 b ∙ w
 
-text-sent : (s : Sent) (bs : List ℕ) (k : ℕ) → Bytes bs → wordsSent (textFrames s k bs) ≡ bs
+pub text-sent : (s : Sent) (bs : List ℕ) (k : ℕ) → Bytes bs → wordsSent (textFrames s k bs) ≡ bs
 unfolding wordsSent textFrames Bytes dataOf bitsAt
 text-sent s [] k h = refl
 text-sent s (b ∷ bs) k h = ap₂ (λ (w : ℕ) (ws : List ℕ). w ∷ ws) (byte-word b (h .0)) (text-sent s bs (k + 10) (h .1))
 
-text-fair : (s : Sent) (clocks : ℕ) (bs : List ℕ) (k : ℕ) → 0 < clocks → 0 < s .baud →
+pub text-fair : (s : Sent) (clocks : ℕ) (bs : List ℕ) (k : ℕ) → 0 < clocks → 0 < s .baud →
     154 * clocks * s .baud + s .baud ≤ 10 * s .clock → 9 * s .clock + s .baud ≤ 151 * clocks * s .baud → FairFrames clocks 8 (textFrames s k bs)
 unfolding textFrames FairFrames bitsAt
 text-fair s clocks [] k p r slow fast = tt
 text-fair s clocks (b ∷ bs) k p r slow fast =
     (refl, rates .rounded clocks (s .clock) (s .baud) (s .baud / 2) k 0 (bitsOfByte b) p r slow fast, text-fair s clocks bs (k + 10) p r slow fast)
-
-first-bit : (s : Sent) → clocksOf s 0 ≡ 0
-unfolding clocksOf
-first-bit s = refl
 
 -- ---- a bit's clocks
 
@@ -99,7 +95,7 @@ few a h q b pos l =
     let y : (a + h) / b ≤ (a + q * b) / b = below (a + h) (a + q * b) b pos x in
     omega (arith, y, add-mul-div-right a q {z = b} pos)
 
-bit-few : (s : Sent) (k q : ℕ) → 0 < s .baud → s .clock ≤ q * s .baud → bitClocks s k ≤ q
+pub bit-few : (s : Sent) (k q : ℕ) → 0 < s .baud → s .clock ≤ q * s .baud → bitClocks s k ≤ q
 unfolding edge
 bit-few s k q pos l =
     let o : ℕ = s .baud / 2 in
@@ -107,7 +103,7 @@ bit-few s k q pos l =
     let y : (k * s .clock + o + s .clock) / s .baud ≤ (k * s .clock + o) / s .baud + q = few (k * s .clock + o) (s .clock) q (s .baud) pos l in
     rw (ne-eqb (s .baud) 0 (λ z. omega arith), e) (omega (arith, y))
 
-slower : (h b x : ℕ) → 9 * h + b ≤ x → h ≤ x
+pub slower : (h b x : ℕ) → 9 * h + b ≤ x → h ≤ x
 slower h b x l = omega arith
 
 small : (n v : ℕ) → n ≤ 151 * (2 * SCBR v) → n < 2 ^ 32
@@ -129,12 +125,8 @@ sends past s bs period since i =
     let m : Module = run past resetModule in
     let ok : Sendable s = sendable s bs period since m i in
     let pos : 0 < period = let l = i .within in omega (arith, l) in
-    let start : m .clock + clocksOf s 0 ≡ m .clock = let z = first-bit s in omega (arith, z) in
-    let room : m .clock + clocksOf s (0 + 10 * length bs) ≤ clockLimit =
-    (let z : 10 * length bs ≡ 0 + 10 * length bs = omega arith in subst (λ (k : ℕ). m .clock + clocksOf s k ≤ clockLimit) z (i .room)) in
-    let b : Both period pos (m .clock) (scheduled period since (m .clock) (held s 0 bs) .acts) (line (textFrames s 0 bs)) =
-    subst (λ (c : ℕ). Both period pos c (scheduled period since c (held s 0 bs) .acts) (line (textFrames s 0 bs))) start
-    (text-as period pos s ok (m .clock) bs 0 room since (i .within)) in
+    let b : Both (m .clock) (scheduled period since (m .clock) (held s 0 bs) .acts) (line (textFrames s 0 bs)) =
+    text-both period pos s ok (m .clock) bs since (i .within) (i .room) in
     let runs : 0 < sampleOf m = let z = i .ready .runs in omega (arith, z) in
     record {
       ready = i .ready;
@@ -159,7 +151,7 @@ words past s bs period since bytes i =
     (w .0 ∙ text-sent s bs 0 bytes, w .1)
 
 -- Without parity none is wrong.
-no-parity : (c : ℕ) (fs : List SentFrame) → PE c ≡ false → RightParity c fs
+pub no-parity : (c : ℕ) (fs : List SentFrame) → PE c ≡ false → RightParity c fs
 unfolding RightParity
 no-parity c [] e = tt
 no-parity c (f ∷ fs) e = (ap (λ (b : Bool). b && parityBit (PT c) (wordOf f)) e, no-parity c fs e)

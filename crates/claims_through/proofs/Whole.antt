@@ -39,11 +39,11 @@ use Rattle.claims_through.proofs.Steps.{all-levels, all-stays}
 use Rattle.claims_through.proofs.Ended.{nine, all-ends, nine-sent}
 use Rattle.claims_through.proofs.Spaced.{all-samples, none-spaced}
 
-positive : (n : ℕ) → 0 < n → 0 < 2 * n
+pub positive : (n : ℕ) → 0 < n → 0 < 2 * n
 positive n h = omega arith
 
 -- A count that is its own low 13 bits.
-whole-small : (v : ℕ) → v ≡ SCBR v → v < 2 ^ 13
+pub whole-small : (v : ℕ) → v ≡ SCBR v → v < 2 ^ 13
 whole-small v e = omega arith
 
 each : (a b c : Bool) → a && b && c ≡ true → (a ≡ true) × (b ≡ true) × (c ≡ true)
@@ -133,7 +133,7 @@ unfolding undamaged.Always sci.run
 always-rest [] fs s h = h
 always-rest (e ∷ es) fs s h = always-rest es fs (sci.step e s) (h .1)
 
-all-always : (es : List Event) (m : Module) → Undamaged (m .sci) → undamaged.Always (all es m) (m .sci) → StaysUndamaged es m
+pub all-always : (es : List Event) (m : Module) → Undamaged (m .sci) → undamaged.Always (all es m) (m .sci) → StaysUndamaged es m
 all-always [] m u h = tt
 all-always (e ∷ es) m u h =
     let f : after e m .sci ≡ sci.run (steps e m) (m .sci) = follows e m in
@@ -151,12 +151,12 @@ none-damaged past es fs h p u =
 
 -- ---- in time
 
-stays-on : (es : List Event) (m : Module) → StaysAwake es m → StaysOn es m
+pub stays-on : (es : List Event) (m : Module) → StaysAwake es m → StaysOn es m
 stays-on [] m h = tt
 stays-on (e ∷ es) m h = (h .0, stays-on es (after e m) (h .2))
 
 -- Where none is lost each word comes.
-all-came : (h : List Mark) (ws : List ℕ) → CameOrLost h ws → lostIn h ≡ 0 → wordsCame h ≡ ws
+pub all-came : (h : List Mark) (ws : List ℕ) → CameOrLost h ws → lostIn h ≡ 0 → wordsCame h ≡ ws
 unfolding CameOrLost wordsCame
 all-came [] [] c l = refl
 all-came [] (w ∷ ws) c l = absurd c
