@@ -1,8 +1,8 @@
 -- A text's trace, replayed: its words come and are delivered, so the lines are the text's. Assumes nothing.
 use mathlib.Core.Path.{_≡_, refl, ap, sym, subst, _∙_}
-use mathlib.Core.Bool.{Bool, true, false, cond}
+use mathlib.Core.Bool.{Bool, true, cond}
 use mathlib.Core.List.{List, [], _∷_, _++_, append-nil}
-use Prim.Native.Nat.{ℕ, _+_, _-_, _*_, _/_, _%_, _^_, _<_, _≤_}
+use Prim.Native.Nat.{ℕ, _+_, _-_, _*_, _%_, _^_, _<_, _≤_}
 use native.Mathlib.Omega.{arith}
 use lib.Dec.{eqb, ltb}
 use lib.ListN.{length, replicate}
@@ -15,40 +15,35 @@ use Rattle.qsm.specs.declared.event.Event.{Event}
 use Rattle.qsm.specs.declared.event.Event.the-variants.{Reset, Hold}
 use Rattle.qsm.specs.declared.event.Event.the-variants as event
 use Rattle.tool_lines.specs.Schedule.{Act, plays, polls, acts, scheduledFor, scheduled}
-use Rattle.tool_lines.specs.Gather.{handed}
-use Rattle.tool_lines.specs.Replay.{eventsOf, polledEvents, lines}
+use Rattle.tool_lines.specs.Replay.{eventsOf, lines}
 use Rattle.tool_lines.proofs.Schedules.{cut-poll}
-use Rattle.tool_assemble.specs.Encode.{recordBytes}
-use Rattle.tool_assemble.specs.Sent.{edge, bitClocks, holdKindOf}
+use Rattle.tool_assemble.specs.Sent.{bitClocks, holdKindOf}
 use Rattle.tool_assemble.specs.declared.sent.Sent.{Sent}
 use Rattle.claims_assembling.specs.Laws.{Fits}
 use Rattle.claims_assembling.specs.Traces.{held, clocksOf}
-use Rattle.claims_assembling.proofs.Edges.{edges-kept}
 use Rattle.claims_histories.specs.History.{after, run, log, playedClocks}
-use Rattle.claims_histories.specs.Sentence.{rxdIn}
-use Rattle.claims_polling.specs.Rule.{lostIn, waiting}
+use Rattle.claims_polling.specs.Rule.{lostIn}
 use Rattle.claims_deadlines.specs.Deadline.{ageFor, InTime}
 use Rattle.claims_deadlines.proofs.Replaying.{in-time}
-use Rattle.claims_lines.specs.Happened.{Happening, happened, marksOf}
+use Rattle.claims_lines.specs.Happened.{Happening, happened}
 use Rattle.claims_lines.specs.Claims.{heard}
 use Rattle.claims_lines.proofs.Marked.{as-marked}
-use Rattle.claims_lines.proofs.Slots.{Slot, slotOf, empty}
+use Rattle.claims_lines.proofs.Slots.{Slot, slotOf}
 use Rattle.claims_lines.proofs.Quickly.{events-joined}
 use Rattle.claims_senders.specs.Fair.{SentFrame, wordsSent, line, FairFrames}
 use Rattle.claims_senders.specs.Heard.{earliest}
-use Rattle.claims_senders.specs.Undamaged.{Undamaged}
-use Rattle.claims_through.specs.Through.{StaysAwake, sampleOf, bitsIn, StaysUndamaged, wordsCame}
+use Rattle.claims_through.specs.Through.{sampleOf, bitsIn, wordsCame}
 use Rattle.claims_through.proofs.Levels.{act-levels}
 use Rattle.claims_through.proofs.Levels as through
-use Rattle.claims_through.proofs.Polls.{Kept, quiet-stays}
-use Rattle.claims_text.specs.Text.{Bytes, textFrames}
-use Rattle.claims_text.specs.Lines.{linesFrom, textLines, delivered, Clean}
-use Rattle.claims_text.specs.Through.{rate, enable, ones, sentTrace, Within, AllLines, cable, order, Met, TextThrough}
+use Rattle.claims_through.proofs.Polls.{quiet-stays}
+use Rattle.claims_text.specs.Text.{textFrames}
+use Rattle.claims_text.specs.Lines.{textLines, delivered, Clean}
+use Rattle.claims_text.specs.Through.{ones, sentTrace, Within}
 use Rattle.claims_text.proofs.Held.{Sendable, Both, none-both, none-yet, kind-fits, hold-acts, hold-both, Splits, HeldAs, end-as, record-as, text-as}
 use Rattle.claims_text.proofs.Sending.{bit-few, slower, text-sent, text-fair, no-parity}
 use Rattle.claims_text.proofs.Accounted.{lines-of-words}
 use Rattle.claims_text.proofs.Ones.{Sends, words-come, no-flag}
-use Rattle.claims_text.proofs.Serving.{Sound, clear, pending, cameIn, lost, Serves}
+use Rattle.claims_text.proofs.Served.{Sound, clear, pending, cameIn, Serves}
 use Rattle.claims_text.proofs.Delivering.{Served, comes, left, all-serves, last-delivered}
 use Rattle.claims_text.proofs.Start.{setUp, Started, started-so, set-up-acts}
 use Rattle.claims_text.proofs.Paused as paused
@@ -256,49 +251,3 @@ module _ (s : Sent) (scbr before : ℕ) (text : List ℕ) (behind period : ℕ) 
   all-lines =
       lines-of-words period (sentTrace s scbr before text behind) (subst Clean (sym heard-is) (serves-all .clean))
       ∙ ap (λ (k : List Happening). textLines (delivered k)) heard-is ∙ ap textLines all-delivered
-
--- ---- X112.5
-
-seven-bytes : Bytes (order ++ (0x0A ∷ []))
-unfolding Bytes
-seven-bytes = (omega arith, (omega arith, (omega arith, (omega arith, (omega arith, (omega arith, (omega arith, tt)))))))
-
-seventy-bits : clocksOf cable (10 * length (order ++ (0x0A ∷ []))) ≡ 122334
-unfolding edge
-seventy-bits = edges-kept cable 70 (omega arith)
-
-in-limit : (n : ℕ) → n ≡ 122334 → 330 + n + 16280 ≤ clockLimit
-in-limit n e = omega (arith, e)
-
-order-within : Within cable 55 330 (order ++ (0x0A ∷ [])) 16280 16280
-order-within =
-    record {
-      bytes = seven-bytes;
-      pins = omega arith;
-      some = omega arith;
-      runs = omega arith;
-      whole = omega arith;
-      slow = omega arith;
-      fast = omega arith;
-      three = omega arith;
-      polled = omega arith;
-      close = omega arith;
-      once = omega arith;
-      fits = (omega arith, omega arith);
-      room = in-limit (clocksOf cable (10 * length (order ++ (0x0A ∷ [])))) seventy-bits;
-    }
-
-order-lines : textLines (order ++ (0x0A ∷ [])) ≡ handed 0 order ∷ []
-unfolding linesFrom
-order-lines = refl
-
-pub text-through : TextThrough
-text-through =
-    record {
-      through = λ s scbr before text behind period w. all-lines s scbr before text behind period w;
-      met =
-          record {
-            within = order-within;
-            handed = all-lines cable 55 330 (order ++ (0x0A ∷ [])) 16280 16280 order-within ∙ order-lines;
-          };
-    }

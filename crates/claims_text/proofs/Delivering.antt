@@ -1,6 +1,6 @@
 -- After a poll in which no word comes any more nothing waits. Assumes nothing.
 use mathlib.Core.Path.{_≡_, refl, ap, sym, subst, _∙_}
-use mathlib.Core.Bool.{Bool, true, false}
+use mathlib.Core.Bool.{Bool}
 use mathlib.Core.List.{List, [], _∷_, _++_, append-nil}
 use Prim.Native.Nat.{ℕ, _+_}
 use native.Mathlib.Omega.{arith}
@@ -21,7 +21,8 @@ use Rattle.claims_lines.proofs.Quickly.{events-joined}
 use Rattle.claims_through.specs.Through.{StaysUndamaged}
 use Rattle.claims_through.proofs.Polls.{Quiet}
 use Rattle.claims_text.specs.Lines.{delivered}
-use Rattle.claims_text.proofs.Serving.{Sound, pending, cameIn, lost, Serves, serves, came-parts, first-none, last-none, undamaged-first, undamaged-last, poll-empties}
+use Rattle.claims_text.proofs.Served.{Sound, pending, cameIn, lost, Serves, came-parts, first-none, last-none}
+use Rattle.claims_text.proofs.Serving.{serves, undamaged-first, undamaged-last, poll-empties}
 
 -- What is asked of acts from a module on.
 pub record Served (zs : List Act) (m : Module) : Type 0 where

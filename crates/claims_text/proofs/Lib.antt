@@ -2,9 +2,11 @@ pub mod Held
 pub mod Sending
 pub mod Accounted
 pub mod Ones
+pub mod Served
 pub mod Serving
 pub mod Delivering
 pub mod Start
 pub mod Paused
 pub mod Arriving
+pub mod Ordered
 pub mod Telling

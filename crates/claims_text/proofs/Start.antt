@@ -10,7 +10,7 @@ use borrow.Author.Tests.{lt-ltb, eqb-true}
 use Rattle.steps.specs.Iterate.{iterate}
 use Rattle.steps.specs.Bits.{merge}
 use Rattle.sci.specs.model.Status.{has}
-use Rattle.sci.specs.model.Control.{SCBR, RE, PE, sccr0Bits}
+use Rattle.sci.specs.model.Control.{RE, PE, sccr0Bits}
 use Rattle.sci.specs.model.Framer.{searching}
 use Rattle.sci.specs.model.Serial.{resetSci, withSccr0, withSccr1, sccr0Set, wroteSccr0, wroteSccr1, sccr0Guarded, sccr1Guarded}
 use Rattle.sci.specs.claims.Members.{member}

@@ -1,10 +1,9 @@
 -- The figures of `tool_rates` by those of the theorems. Assumes nothing.
 use mathlib.Core.Path.{_≡_, refl, sym, subst}
 use mathlib.Core.Bool.{Bool, true, false, cond, _&&_, false≢true}
-use mathlib.Core.List.{List}
 use Prim.Native.Nat.{ℕ, zero, suc, _+_, _*_, _/_, _≤_, _<_}
 use native.Mathlib.Omega.{arith}
-use lib.Dec.{ltb, leb}
+use lib.Dec.{ltb}
 use lib.ListN.{length}
 use borrow.Author.Tests.{ltb-true, leb-true}
 use Rattle.sci.specs.model.Control.{SCBR, M, bitsOf}
@@ -14,7 +13,7 @@ use Rattle.claims_senders.specs.Fair.{FairFrame}
 use Rattle.claims_senders.specs.Heard.{earliest}
 use Rattle.claims_senders.specs.Rates.{frameAt}
 use Rattle.claims_senders.proofs.Grid.{rates}
-use Rattle.claims_text.specs.Told.{Deadlines, HeardFair, Usual, RatesTold}
+use Rattle.claims_text.specs.Told.{Deadlines, HeardFair, RatesTold}
 
 any-apart : (nine : Bool) (s : ℕ) → apart nine false * s ≡ spacing.apart true (bitsOf nine) * s
 any-apart true s = refl

@@ -1,5 +1,5 @@
 use mathlib.Core.Path.{refl}
-use Rattle.claims_text.proofs.Arriving.{text-through}
+use Rattle.claims_text.proofs.Ordered.{text-through}
 use Rattle.claims_text.proofs.text_through.Statement.{statement}
 use Rattle.claims_text.proofs.text_through.Tie as tie
 
