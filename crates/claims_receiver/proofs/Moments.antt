@@ -9,7 +9,7 @@ use Rattle.sci.specs.model.Serial.{sampled, wroteSccr1}
 use Rattle.sci.specs.claims.Levels.{lowBits}
 use Rattle.sci.specs.claims.Marked.{samples}
 use Rattle.sci.specs.claims.Moves.{lasting}
-use Rattle.claims_receiver.specs.Moments.{IdleAt, Idles, DrivenFor, Driven, LateFalls}
+use Rattle.claims_receiver.specs.Moments.{IdleAt, Idles, Abandons, DrivenFor, Driven, LateFalls}
 
 pub idles : Idles
 unfolding samples sampled sent received outcome raised entered statusAfter receiverAfter framed fixed startBit dataBit stopBit has raise raiseIf fall fallIf wroteSccr1
@@ -20,6 +20,10 @@ idles =
       long-8 = record { not-yet = refl; active = refl; idle = refl; over = refl };
       long-9 = record { not-yet = refl; active = refl; idle = refl; over = refl };
     }
+
+pub abandons : Abandons
+unfolding samples sampled sent received outcome raised entered statusAfter receiverAfter framed fixed startBit has raise raiseIf fall fallIf wroteSccr1
+abandons = refl
 
 pub driven : Driven
 unfolding iterate sampled sent raise raiseIf has fall wroteSccr1

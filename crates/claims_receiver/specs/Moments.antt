@@ -1,11 +1,13 @@
 -- Document 01, Receiver and Transmitter, and 02, L3: moments by number, computed of samples.
 use mathlib.Core.Path.{_≡_}
-use mathlib.Core.Bool.{Bool, true, false}
+use mathlib.Core.Bool.{Bool, true, false, _&&_, Bool·beq}
 use mathlib.Core.List.{List, [], _∷_, _++_}
-use Prim.Native.Nat.{ℕ}
+use Prim.Native.Nat.{ℕ, _+_}
+use lib.Dec.{ltb}
 use lib.ListN.{replicate, take}
+use Rattle.steps.specs.Bits.{digit}
 use Rattle.steps.specs.Iterate.{iterate}
-use Rattle.sci.specs.model.Flags.{IDLE, RAF, RDRF, TC}
+use Rattle.sci.specs.model.Flags.{IDLE, RAF, RDRF}
 use Rattle.sci.specs.model.Status.{has}
 use Rattle.sci.specs.model.Serial.{resetSci, sampled, wroteSccr1, txdDriven}
 use Rattle.sci.specs.claims.Levels.{lowBits}
@@ -35,7 +37,21 @@ pub record Idles : Type 0 where
   pub long-8 : IdleAt 0x1004 297 298
   pub long-9 : IdleAt 0x1204 329 330
 
--- TE is set and the preamble begins with the next sample; TE clear again, TXD is driven and TC clear up to the sample of its end, 160 (M=0) or
+-- A start bit up to RT7, all 64 of them: RAF is set after it exactly if fewer than two of RT3, RT5 and RT7 are ones; with two the start is
+-- abandoned, and RAF falls.
+abbrev pub both : (Bool → Bool) → Bool
+both f = f true && f false
+
+abbrev pub startBit : Bool → Bool → Bool → Bool → Bool → Bool → Bool
+startBit x2 x3 x4 x5 x6 x7 =
+    Bool·beq (has (samples (false ∷ x2 ∷ x3 ∷ x4 ∷ x5 ∷ x6 ∷ x7 ∷ []) (listening 0x0004) .status) RAF)
+    (ltb (digit x3 + digit x5 + digit x7) 2)
+
+abbrev pub Abandons : Type 0
+Abandons =
+    both (λ x2. both (λ x3. both (λ x4. both (λ x5. both (λ x6. both (λ x7. startBit x2 x3 x4 x5 x6 x7)))))) ≡ true
+
+-- TE is set and the preamble begins with the next sample; TE clear again, TXD is driven up to the sample of its end, 160 (M=0) or
 -- 176 later.
 abbrev pub leaving : ℕ → ℕ → Sci
 leaving te off = wroteSccr1 (sampled (wroteSccr1 resetSci te true true) true) off true true

@@ -6,5 +6,6 @@ pub mod OwnBytes
 pub mod SerialBytes
 pub mod QueueBytes
 pub mod Bytes
+pub mod Longs
 pub mod Users
 pub mod Reading

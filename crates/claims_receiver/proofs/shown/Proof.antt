@@ -2,12 +2,12 @@ use mathlib.Core.Path.{refl}
 use Rattle.claims_receiver.proofs.shown.Statement.{statement}
 use Rattle.claims_receiver.proofs.shown.Tie as tie
 use Rattle.claims_receiver.proofs.Silent.{off-silent, four-samples}
-use Rattle.claims_receiver.proofs.Moments.{idles, driven, late-falls}
+use Rattle.claims_receiver.proofs.Moments.{idles, abandons, driven, late-falls}
 
 returns : tie.Need-returns
 returns c = (
   refl,
-  record { off-silent = off-silent; four-samples = four-samples; idles = idles; driven = driven; late-falls = late-falls },
+  record { off-silent = off-silent; four-samples = four-samples; idles = idles; abandons = abandons; driven = driven; late-falls = late-falls },
 )
 
 pub shown-spec : {M : Type 1} → statement M

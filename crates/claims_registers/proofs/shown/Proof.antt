@@ -5,6 +5,7 @@ use Rattle.claims_registers.proofs.Formed.{keeps}
 use Rattle.claims_registers.proofs.Bytes.{bytes-back}
 use Rattle.claims_registers.proofs.OwnBytes.{byte-14}
 use Rattle.claims_registers.proofs.QueueBytes.{halt-byte}
+use Rattle.claims_registers.proofs.Longs.{long-writes}
 use Rattle.claims_registers.proofs.Users.{users-are}
 use Rattle.claims_registers.proofs.Reading.{shown-by}
 
@@ -16,6 +17,7 @@ returns c = (
     bytes-back = bytes-back;
     halt-byte = halt-byte;
     byte-14 = byte-14;
+    long-writes = long-writes;
     users = users-are;
     shown-by = shown-by;
   },
