@@ -1,26 +1,28 @@
 -- A turn at an access, and a call's refusals. Assumes nothing.
 use mathlib.Core.Path.{_≡_, refl, sym, ap, _∙_}
 use mathlib.Core.Logic.{_⊎_, inl, inr}
-use mathlib.Core.Bool.{Bool, true, false, cond, _&&_, true≢false}
+use mathlib.Core.Bool.{Bool, true, false, cond, not, _&&_, true≢false}
 use mathlib.Core.List.{List, [], _∷_}
-use Prim.Native.Nat.{ℕ, _+_, _*_, _%_, _<_}
+use Prim.Native.Nat.{ℕ, _+_, _-_, _*_, _%_, _^_, _<_}
 use native.Mathlib.Omega.{arith}
-use lib.Dec.{leb}
+use lib.Dec.{eqb, leb}
 use lib.ListN.{length, drop, length-drop}
 use borrow.Author.Tests.{lt-ltb, le-ltb, lt-leb, le-leb, eq-eqb, ne-eqb}
 use Rattle.qsm.specs.model.Decision.{shaped, fits}
 use Rattle.qsm.specs.model.Lanes.{inMap, touches}
 use Rattle.qsm.specs.declared.event.Access.{Access}
 use Rattle.qsm.specs.declared.event.Access.the-variants.{Read, Write}
+use Rattle.qsm.specs.declared.event.Event.the-variants.{Hold}
 use Rattle.qsm.specs.declared.event.Event.the-variants as event
 use Rattle.trace.specs.Trace.{parsed}
-use Rattle.trace.specs.declared.Parsed.the-variants.{Record}
+use Rattle.trace.specs.declared.Parsed.{Parsed}
+use Rattle.trace.specs.declared.Parsed.the-variants.{Record, Unknown, Cut}
 use Rattle.tool_lines.specs.Schedule.{reaches}
-use Rattle.tool_lines.specs.Call.{turned, eventOn, eventOrStop, turn, goFor, goOn, called}
+use Rattle.tool_lines.specs.Call.{turned, eventOn, eventOrStop, recordOn, turn, goFor, goOn, called}
 use Rattle.tool_lines.specs.declared.line.Outcome.the-variants.{Ended, Refused}
 use Rattle.tool_lines.specs.declared.Lines.{Lines}
 use Rattle.tool_lines.specs.declared.Turned.{Turned}
-use Rattle.claims_schedule.specs.Stops.{touching, small, Meets, Reads, Writes, CallRefusals}
+use Rattle.claims_schedule.specs.Stops.{touching, small, stoppedBy10, Meets, Reads, Writes, StandsAt, Others, CallRefusals}
 use Rattle.claims_schedule.proofs.Touching.{passing-is}
 
 -- ---- a record that is an access
@@ -78,6 +80,43 @@ writes period t s w h l a b c d rest idle is =
     (inside-of t (s .at) 0x04 (w ∷ h ∷ l ∷ a ∷ b ∷ c ∷ d ∷ rest) is)
     (rw is
     (rw (ne-eqb (length (0x04 ∷ w ∷ h ∷ l ∷ a ∷ b ∷ c ∷ d ∷ rest)) 0 (λ z. omega (arith, z)), le-ltb (length (0x04 ∷ w ∷ h ∷ l ∷ a ∷ b ∷ c ∷ d ∷ rest)) 8 (omega arith))))
+
+-- ---- other records
+
+module _ (period : ℕ) (t : List ℕ) (s : Lines) where
+  -- A turn at what stands there.
+  meeting : (x : ℕ) (l : List ℕ) (p : Parsed) → StandsAt (x ∷ l) t s → parsed (x ∷ l) ≡ p → turn period t s ≡ recordOn period s p
+  unfolding turn
+  meeting x l p at is = rw (at .0, lt-leb (length t) (s .at) (inside-of t (s .at) x l (at .1)), at .1, is)
+
+  past : (pins : ℕ) (rxd : Bool) (n size : ℕ) → 2 ^ 64 - 1 < s .device .clock + n → recordOn period s (Record (Hold pins rxd n) size) ≡ turned s stoppedBy10
+  past pins rxd n size h = rw (lt-ltb (2 ^ 64 - 1) (s .device .clock + n) h)
+
+some-byte : (x : ℕ) (l : List ℕ) → eqb (length (x ∷ l)) 0 ≡ false
+some-byte x l = ne-eqb (length (x ∷ l)) 0 (λ z. omega (arith, z))
+
+pub others : Others
+others period t s rest =
+    record {
+      unknown = λ kind at a b c d e.
+          meeting period t s kind rest Unknown at (rw (some-byte kind rest, ne-eqb kind 1 a, ne-eqb kind 2 b, ne-eqb kind 3 c, ne-eqb kind 4 d, ne-eqb kind 5 e));
+      cut-hold = λ at short.
+          meeting period t s 0x02 rest Cut at (rw (some-byte 0x02 rest, lt-ltb (length {A = ℕ} (0x02 ∷ rest)) 5 (omega (arith, short))));
+      cut-read = λ at short.
+          meeting period t s 0x03 rest Cut at (rw (some-byte 0x03 rest, lt-ltb (length {A = ℕ} (0x03 ∷ rest)) 4 (omega (arith, short))));
+      cut-write = λ at short.
+          meeting period t s 0x04 rest Cut at (rw (some-byte 0x04 rest, lt-ltb (length {A = ℕ} (0x04 ∷ rest)) 8 (omega (arith, short))));
+      cut-long-hold = λ at short.
+          meeting period t s 0x05 rest Cut at (rw (some-byte 0x05 rest, lt-ltb (length {A = ℕ} (0x05 ∷ rest)) 7 (omega (arith, short))));
+      hold = λ pins rxd h l at over.
+          meeting period t s 0x02 (pins ∷ rxd ∷ h ∷ l ∷ rest) (Record (Hold pins (not (eqb rxd 0)) (h * 256 + l)) 5) at
+          (rw (some-byte 0x02 (pins ∷ rxd ∷ h ∷ l ∷ rest), le-ltb (length {A = ℕ} (0x02 ∷ pins ∷ rxd ∷ h ∷ l ∷ rest)) 5 (omega arith)))
+          ∙ past period t s pins (not (eqb rxd 0)) (h * 256 + l) 5 over;
+      long-hold = λ pins rxd a b c d at over.
+          meeting period t s 0x05 (pins ∷ rxd ∷ a ∷ b ∷ c ∷ d ∷ rest) (Record (Hold pins (not (eqb rxd 0)) ((a * 256 + b) * 65536 + (c * 256 + d))) 7) at
+          (rw (some-byte 0x05 (pins ∷ rxd ∷ a ∷ b ∷ c ∷ d ∷ rest), le-ltb (length {A = ℕ} (0x05 ∷ pins ∷ rxd ∷ a ∷ b ∷ c ∷ d ∷ rest)) 7 (omega arith)))
+          ∙ past period t s pins (not (eqb rxd 0)) ((a * 256 + b) * 65536 + (c * 256 + d)) 7 over;
+    }
 
 -- ---- calls
 

@@ -1,6 +1,6 @@
 use mathlib.Core.Path.{refl}
 use Rattle.claims_schedule.proofs.Polls.{polls-on-time}
-use Rattle.claims_schedule.proofs.Stops.{reads, writes, call-refusals}
+use Rattle.claims_schedule.proofs.Stops.{reads, writes, others, call-refusals}
 use Rattle.claims_schedule.proofs.shown.Statement.{statement}
 use Rattle.claims_schedule.proofs.shown.Tie as tie
 
@@ -11,6 +11,7 @@ returns c = (
     polls-on-time = polls-on-time;
     reads = reads;
     writes = writes;
+    others = others;
     call-refusals = call-refusals;
   },
 )
