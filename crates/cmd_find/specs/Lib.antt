@@ -1,0 +1,4 @@
+pub mod Piece
+pub mod Answer
+pub mod Marks
+pub mod Laws
