@@ -1,0 +1,4 @@
+pub mod Giving
+pub mod Placing
+pub mod Stepping
+pub mod Whole
