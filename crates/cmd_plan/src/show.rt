@@ -1,18 +1,12 @@
 // A plan as people read it, and as a trace.
 ghost use Prim.Native.Nat.{_≤_};
-use files::output::write_first;
-use libc::STDOUT_FILENO;
+use console::output::Out;
+use console::output::put;
+use console::output::put_line;
 use text::line::Line;
 use tool_plan::Plan;
 use tool_plan::SetPoints;
 use tool_plan::load::HostWrite;
-
-// Whether it could be written.
-pub fn write_line(line: Line) -> bool {
-    let n = line.length;
-    let bytes = line.bytes;
-    write_first(STDOUT_FILENO, &bytes, n)
-}
 
 fn minus(a: u64, b: u64) -> u64 {
     if b < a { a - b } else { 0 }
@@ -72,30 +66,43 @@ fn few(count: u8) -> usize
     if count < 16 { count as usize } else { 16 }
 }
 
-// The plan of these set-points, entry by entry.
-pub fn show(points: SetPoints, plan: Plan, window: u64) -> bool {
-    let mut whole = write_line(head_line(plan, window));
-    whole = write_line(register_line(plan)) & whole;
+// An entry of the plan, by its number below 16.
+fn put_entry(out: Out, buf: &mut [u8], points: SetPoints, plan: Plan, k: usize) -> Out {
+    let i = k % 16;
+    let at = (plan.first as u64 + i as u64) % 16;
+    let line = entry_line(
+        at,
+        points.selects[i],
+        points.bits[i],
+        plan.words[i],
+        plan.commands[i],
+    );
+    put_line(out, buf, line)
+}
+
+fn put_entries(out: Out, buf: &mut [u8], points: SetPoints, plan: Plan) -> Out {
     let n = few(plan.count);
-    let selects = points.selects;
-    let bits = points.bits;
-    let words = plan.words;
-    let commands = plan.commands;
+    let mut given = out;
     let mut k: usize = 0;
     while k < n {
-        let at = (plan.first as u64 + k as u64) % 16;
-        let line = entry_line(at, selects[k], bits[k], words[k], commands[k]);
-        whole = write_line(line) & whole;
+        given = put_entry(given, buf, points, plan, k);
         k += 1;
     }
-    whole
+    given
+}
+
+// The plan of these set-points, entry by entry.
+pub fn show(out: Out, buf: &mut [u8], points: SetPoints, plan: Plan, window: u64) -> Out {
+    let head = put_line(out, buf, head_line(plan, window));
+    let given = put_line(head, buf, register_line(plan));
+    put_entries(given, buf, points, plan)
 }
 
 fn low(n: u32) -> u8 {
     (n % 256) as u8
 }
 
-fn put_write(w: HostWrite) {
+fn put_write(out: Out, buf: &mut [u8], w: HostWrite) -> Out {
     let offset = w.offset as u32;
     let record = [
         4u8,
@@ -107,39 +114,49 @@ fn put_write(w: HostWrite) {
         low(w.value / 256),
         low(w.value),
     ];
-    io::write_all(STDOUT_FILENO, &record);
+    put(out, buf, &record)
 }
 
 // Pins at 0, RXD at one.
-fn put_hold(clocks: u32) {
+fn put_hold(out: Out, buf: &mut [u8], clocks: u32) -> Out {
     let record = [2u8, 0, 1, low(clocks / 256), low(clocks)];
-    io::write_all(STDOUT_FILENO, &record);
+    put(out, buf, &record)
 }
 
-fn run_for(clocks: u64) {
+fn run_for(out: Out, buf: &mut [u8], clocks: u64) -> Out {
+    let mut given = out;
     let mut left = clocks;
     while left > 65535 {
-        put_hold(65535);
+        given = put_hold(given, buf, 65535);
         left -= 65535;
     }
-    put_hold((left % 65536) as u32);
+    put_hold(given, buf, (left % 65536) as u32)
+}
+
+// The writes that load a plan.
+fn put_load(out: Out, buf: &mut [u8], plan: Plan) -> Out {
+    let n = tool_plan::load::writes(plan);
+    let mut given = out;
+    let mut i: u16 = 0;
+    while i < n {
+        let w = tool_plan::load::write(plan, i);
+        given = put_write(given, buf, w);
+        i += 1;
+    }
+    given
 }
 
 // The trace that resets the module, makes MOSI, SCK and the PCS assigned outputs, loads the plan and runs it.
-pub fn trace(plan: Plan) {
-    io::write_all(STDOUT_FILENO, b"\x01");
-    put_write(HostWrite {
+pub fn trace(out: Out, buf: &mut [u8], plan: Plan) -> Out {
+    let reset = put(out, buf, b"\x01");
+    let pins = HostWrite {
         value: 0x7A7E,
         offset: 0x16,
         width: 2,
-    });
-    let n = tool_plan::load::writes(plan);
-    let mut i: u16 = 0;
-    while i < n {
-        put_write(tool_plan::load::write(plan, i));
-        i += 1;
-    }
-    run_for(plan.clock);
+    };
+    let outputs = put_write(reset, buf, pins);
+    let loaded = put_load(outputs, buf, plan);
+    run_for(loaded, buf, plan.clock)
 }
 
 // A line with what is wrong with a line of the set-points.
