@@ -1,7 +1,7 @@
 // What is asked for, from the words of the command.
 ghost use mathlib.Core.Path.{_≡_};
-ghost use Rattle.editions.specs.Words.{hexValue, ofDigits, registerOf};
-use files::command::word;
+ghost use Rattle.cmd_editions.specs.Words.{hexValue, ofDigits, registerOf};
+use shell::arguments::Seen;
 use text::number::Number;
 use text::number::parse_number;
 use tool_editions::records::Edition;
@@ -92,29 +92,30 @@ fn number_of(word: &[u8]) -> Word {
     }
 }
 
-fn register(k: usize) -> Word {
+// The register, and the number, that the argument at a place is.
+fn register(place: usize) -> Word {
     let mut buf = io::buffer();
-    let n = word(k, &mut buf);
+    let n = os::arg(place, &mut buf);
     register_of(&buf[..n])
 }
 
-fn number() -> Word {
+fn number(place: usize) -> Word {
     let mut buf = io::buffer();
-    let n = word(2, &mut buf);
+    let n = os::arg(place, &mut buf);
     number_of(&buf[..n])
 }
 
-fn edition(n: u16) -> Verb {
-    let Word::Is(sccr0) = register(3) else {
+fn edition(n: u16, places: [usize; 8]) -> Verb {
+    let Word::Is(sccr0) = register(places[3]) else {
         return Verb::Unknown;
     };
-    let Word::Is(sccr1) = register(4) else {
+    let Word::Is(sccr1) = register(places[4]) else {
         return Verb::Unknown;
     };
-    let Word::Is(spcr0) = register(5) else {
+    let Word::Is(spcr0) = register(places[5]) else {
         return Verb::Unknown;
     };
-    let Word::Is(spcr1) = register(6) else {
+    let Word::Is(spcr1) = register(places[6]) else {
         return Verb::Unknown;
     };
     Verb::Add(Edition {
@@ -147,34 +148,35 @@ fn numbered(name: &[u8], n: u16) -> Verb {
     Verb::Unknown
 }
 
-fn long(name: &[u8], n: u16) -> Verb {
+fn long(name: &[u8], n: u16, places: [usize; 8]) -> Verb {
     if check::same(name, b"add") {
-        return edition(n);
+        return edition(n, places);
     }
     Verb::Unknown
 }
 
-fn by_words(name: &[u8], words: usize) -> Verb {
+fn by_words(name: &[u8], words: usize, places: [usize; 8]) -> Verb {
     if words == 2 {
         return short(name);
     }
-    let Word::Is(n) = number() else {
+    let Word::Is(n) = number(places[2]) else {
         return Verb::Unknown;
     };
     if words == 3 {
         return numbered(name, n);
     }
     if words == 7 {
-        return long(name, n);
+        return long(name, n, places);
     }
     Verb::Unknown
 }
 
-// What the command asks for, with so many words; Unknown where it is not understood.
-pub fn asked(words: usize) -> Verb {
+// What the command asks for; Unknown where it is not understood.
+pub fn asked(seen: Seen) -> Verb {
+    let places = seen.places;
     let mut buf = io::buffer();
-    let n = word(1, &mut buf);
-    by_words(&buf[..n], words)
+    let n = os::arg(places[1], &mut buf);
+    by_words(&buf[..n], seen.words, places)
 }
 
 pub fn adds(v: Verb) -> bool {

@@ -1,19 +1,13 @@
 // Editions as text, and as the writes of a trace.
 ghost use mathlib.Core.Path.{_≡_};
-ghost use Rattle.editions.specs.Writes.{writesOf};
-use files::output::write_first;
-use libc::STDOUT_FILENO;
+ghost use Rattle.cmd_editions.specs.Writes.{writesOf};
+use crate::file::within;
+use console::output::Out;
+use console::output::put_line;
 use text::line::Line;
 use tool_editions::records::Edition;
 use tool_editions::records::Parsed;
 use tool_editions::records::Record;
-
-// Whether it could be written.
-pub fn write_line(line: Line) -> bool {
-    let n = line.length;
-    let bytes = line.bytes;
-    write_first(STDOUT_FILENO, &bytes, n)
-}
 
 pub fn edition_line(e: Edition, withdrawn: bool) -> Line {
     let line = Line::empty()
@@ -118,28 +112,38 @@ pub fn writes(e: Edition) -> [u8; 32]
     ]
 }
 
-fn show(buf: &[u8], r: Record) -> bool {
+fn show(out: Out, lines: &mut [u8], file: &[u8], r: Record) -> Out {
     match r {
         Record::Added(e) => {
-            let g = tool_editions::get(buf, buf.len(), e.number);
-            write_line(edition_line(e, g.refusal != 0))
+            let g = tool_editions::get(file, file.len(), e.number);
+            put_line(out, lines, edition_line(e, g.refusal != 0))
         }
-        Record::Withdrawn(_) => true,
+        Record::Withdrawn(_) => out,
     }
 }
 
-// A line for each edition that was added.
-pub fn list(buf: &[u8]) -> bool {
-    let mut at: usize = 0;
-    while at < buf.len() {
-        let p = tool_editions::records::parse(&buf[at..]);
-        let Parsed::Whole(r) = p else {
-            return true;
-        };
-        if !show(buf, r) {
-            return false;
-        }
-        at += tool_editions::records::size(r);
+// A place so many bytes on, or the largest number.
+fn after(at: usize, n: usize) -> usize {
+    if n <= usize::MAX - at {
+        return at + n;
     }
-    true
+    usize::MAX
+}
+
+// A line for each edition that was added: a file has up to 64 records.
+pub fn list(out: Out, lines: &mut [u8], buf: &[u8]) -> Out {
+    let mut given = out;
+    let mut at: usize = 0;
+    let mut turns: u8 = 0;
+    while turns < 64 {
+        let from = within(at, buf);
+        let p = tool_editions::records::parse(&buf[from..]);
+        let Parsed::Whole(r) = p else {
+            return given;
+        };
+        given = show(given, lines, buf, r);
+        at = after(from, tool_editions::records::size(r));
+        turns += 1;
+    }
+    given
 }

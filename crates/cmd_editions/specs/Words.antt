@@ -4,8 +4,8 @@ use mathlib.Core.List.{List}
 use Prim.Native.Nat.{ℕ, _+_, _-_, _*_}
 use lib.Dec.{eqb, ltb}
 use lib.ListN.{length, getD}
-use Rattle.editions.specs.declared.command.Word.{Word}
-use Rattle.editions.specs.declared.command.Word.the-variants.{Is, NoWord}
+use Rattle.cmd_editions.specs.declared.command.Word.{Word}
+use Rattle.cmd_editions.specs.declared.command.Word.the-variants.{Is, NoWord}
 
 -- 0 to 9, A to F, a to f; 16 for what is no digit.
 abbrev pub hexValue : ℕ → ℕ

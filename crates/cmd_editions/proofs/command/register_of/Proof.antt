@@ -1,7 +1,7 @@
 use borrow.Author.Needs.{needs}
 use borrow.Author.Tests.{eq-eqb, ne-eqb}
-use Rattle.editions.proofs.command.register_of.Statement.{statement}
-use Rattle.editions.proofs.command.register_of.Tie as tie
+use Rattle.cmd_editions.proofs.command.register_of.Statement.{statement}
+use Rattle.cmd_editions.proofs.command.register_of.Tie as tie
 
 returns : tie.Need-returns
 returns c = simp (ne-eqb _ _ (c .if1 .taken))

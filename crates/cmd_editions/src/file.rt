@@ -1,20 +1,19 @@
 // A file of editions, read whole. Its records are at most 64, so that a file longer than the buffer is refused by its first 1,024 bytes.
-ghost use mathlib.Core.Path.{_≡_};
-ghost use Prim.Native.Nat.{min};
-use files::message::fail;
+ghost use Rattle.io.specs.Counts.{Counts};
 use files::message::say;
 use files::pieces::fill;
+use shell::message::fail;
 
 pub struct Loaded {
     pub read: bool,
     pub used: usize,
 }
 
-// Ruled out: a length past the buffer; a record cut off.
-pub fn within(used: usize, length: usize) -> usize
-    ensures { λ r. ⌜ r ≡ min used length ⌝ }
+// Ruled out: a length past the buffer.
+pub fn within(used: usize, bytes: &[u8]) -> usize
+    ensures { λ r. ⌜ Counts r (now (bytes .entry)) ⌝ }
 {
-    files::pieces::least(used, length)
+    files::pieces::least(used, bytes.len())
 }
 
 fn not_read() -> Loaded {
