@@ -1,0 +1,4 @@
+pub mod Options
+pub mod Arguments
+pub mod Escapes
+pub mod Folder
