@@ -1,9 +1,11 @@
 // The commands behind one name: `qsm show FILE`, or `qsm-show FILE` by a link. A program of Rattle has no exit status; a function that C calls has.
 use console::status::Status;
 use console::status::number;
-use files::message::say_of;
 use libc::STDERR_FILENO;
 use libc::STDOUT_FILENO;
+use shell::message::say_of;
+
+mod named;
 
 fn usage(fd: i32) -> bool {
     io::write_all(
@@ -11,7 +13,7 @@ fn usage(fd: i32) -> bool {
         b"\
 usage: qsm COMMAND [ARGUMENTS]
        qsm COMMAND --help
-       qsm --version
+       qsm help | qsm version
 ",
     )
 }
@@ -22,6 +24,12 @@ fn commands(fd: i32) -> bool {
         b"
 Commands:
   show      print a log or a trace as text
+  wave      draw a trace as a VCD file
+  compare   tell in which answers and fields two logs differ
+  plan      plan set-points for the queue
+  editions  keep register settings by edition
+  index     make or extend an index of a trace
+  find      find a record of a trace by its index
 
 Exit status: 0 done and nothing found, 1 done and something found, 2 could not be done.
 ",
@@ -42,29 +50,30 @@ fn version() -> Status {
     console::status::worse(files::version::print_version(b"qsm"), Status::Done)
 }
 
-// The command of a name, whose words begin at an argument.
-fn start(name: &[u8], from: usize) -> Status {
-    if check::same(name, b"show") {
-        return cmd_show::run(from);
-    }
-    if check::same(name, b"help") {
-        return help();
-    }
-    if check::same(name, b"--help") {
-        return help();
-    }
-    if check::same(name, b"-h") {
-        return help();
-    }
-    if check::same(name, b"version") {
-        return version();
-    }
-    if check::same(name, b"--version") {
-        return version();
-    }
+fn unknown(name: &[u8]) -> Status {
     say_of(b"qsm", b"unknown command ", name);
     usage(STDERR_FILENO);
     Status::Failed
+}
+
+// What qsm says of itself.
+fn own(name: &[u8]) -> Status {
+    if named::is_help(name) {
+        return help();
+    }
+    if named::is_version(name) {
+        return version();
+    }
+    unknown(name)
+}
+
+// The command of a name, whose words begin at an argument.
+fn start(name: &[u8], from: usize) -> Status {
+    let ran = named::run(name, from);
+    if ran.known {
+        return ran.status;
+    }
+    own(name)
 }
 
 // The command that argument 1 names.
@@ -79,8 +88,20 @@ fn by_word() -> Status {
     start(&word[..n], 2)
 }
 
+// The command that a link's name tells, behind `qsm-`, or else argument 1.
+fn by_link() -> Status {
+    let mut path = io::buffer();
+    let n = os::arg(0, &mut path);
+    let at = shell::target::folder(&path[..n]);
+    let name = &path[at..n];
+    if named::is_link(name) {
+        return start(&name[4..], 1);
+    }
+    by_word()
+}
+
 // What C's main calls; it finds the arguments itself.
 #[no_mangle]
 pub extern "C" fn qsm_command() -> i32 {
-    number(by_word())
+    number(by_link())
 }

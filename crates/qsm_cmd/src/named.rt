@@ -1,0 +1,86 @@
+// Commands by their names.
+use console::status::Status;
+
+// Whether there is a command of the name, and what it ended with.
+pub struct Ran {
+    pub known: bool,
+    pub status: Status,
+}
+
+fn ran(status: Status) -> Ran {
+    Ran {
+        known: true,
+        status,
+    }
+}
+
+// Of logs and traces.
+fn of_logs(name: &[u8], from: usize) -> Ran {
+    if check::same(name, b"show") {
+        return ran(cmd_show::run(from));
+    }
+    if check::same(name, b"wave") {
+        return ran(cmd_wave::run(from));
+    }
+    if check::same(name, b"compare") {
+        return ran(cmd_compare::run(from));
+    }
+    Ran {
+        known: false,
+        status: Status::Failed,
+    }
+}
+
+// Of the queue, settings and indexes.
+fn of_files(name: &[u8], from: usize) -> Ran {
+    if check::same(name, b"plan") {
+        return ran(cmd_plan::run(from));
+    }
+    if check::same(name, b"editions") {
+        return ran(cmd_editions::run(from));
+    }
+    if check::same(name, b"index") {
+        return ran(cmd_index::run(from));
+    }
+    if check::same(name, b"find") {
+        return ran(cmd_find::run(from));
+    }
+    Ran {
+        known: false,
+        status: Status::Failed,
+    }
+}
+
+// The command of a name, whose words begin at an argument; unknown, and nothing done, where there is none.
+pub fn run(name: &[u8], from: usize) -> Ran {
+    let some = of_logs(name, from);
+    if some.known {
+        return some;
+    }
+    of_files(name, from)
+}
+
+pub fn is_help(name: &[u8]) -> bool {
+    if check::same(name, b"help") {
+        return true;
+    }
+    if check::same(name, b"--help") {
+        return true;
+    }
+    check::same(name, b"-h")
+}
+
+pub fn is_version(name: &[u8]) -> bool {
+    if check::same(name, b"version") {
+        return true;
+    }
+    check::same(name, b"--version")
+}
+
+// Whether a program's name begins with `qsm-`.
+pub fn is_link(name: &[u8]) -> bool {
+    if name.len() < 4 {
+        return false;
+    }
+    check::same(&name[..4], b"qsm-")
+}
