@@ -1,0 +1,13 @@
+use borrow.Author.Needs.{needs}
+use Rattle.cmd_lines.proofs.calls.Run.start.Statement.{statement}
+use Rattle.cmd_lines.proofs.calls.Run.start.Tie as tie
+
+returns : tie.Need-returns
+returns c = rw (c .start .ensures)
+
+pub start-spec : {M : Type 1} → statement M
+start-spec =
+    tie.close
+    (tie.spec
+    (λ c κs. search needs)
+    returns)
