@@ -23,6 +23,8 @@ fn commands(fd: i32) -> bool {
         fd,
         b"
 Commands:
+  replay    play a trace and write its log
+  lines     replay what came on RXD and print the lines that polls deliver
   show      print a log or a trace as text
   wave      draw a trace as a VCD file
   compare   tell in which answers and fields two logs differ

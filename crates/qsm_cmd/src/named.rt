@@ -14,13 +14,27 @@ fn ran(status: Status) -> Ran {
     }
 }
 
-// Of logs and traces.
-fn of_logs(name: &[u8], from: usize) -> Ran {
-    if check::same(name, b"show") {
-        return ran(cmd_show::run(from));
+// Of what a trace does.
+fn of_traces(name: &[u8], from: usize) -> Ran {
+    if check::same(name, b"replay") {
+        return ran(cmd_replay::run(from));
+    }
+    if check::same(name, b"lines") {
+        return ran(cmd_lines::run(from));
     }
     if check::same(name, b"wave") {
         return ran(cmd_wave::run(from));
+    }
+    Ran {
+        known: false,
+        status: Status::Failed,
+    }
+}
+
+// Of logs.
+fn of_logs(name: &[u8], from: usize) -> Ran {
+    if check::same(name, b"show") {
+        return ran(cmd_show::run(from));
     }
     if check::same(name, b"compare") {
         return ran(cmd_compare::run(from));
@@ -53,9 +67,13 @@ fn of_files(name: &[u8], from: usize) -> Ran {
 
 // The command of a name, whose words begin at an argument; unknown, and nothing done, where there is none.
 pub fn run(name: &[u8], from: usize) -> Ran {
-    let some = of_logs(name, from);
-    if some.known {
-        return some;
+    let first = of_traces(name, from);
+    if first.known {
+        return first;
+    }
+    let second = of_logs(name, from);
+    if second.known {
+        return second;
     }
     of_files(name, from)
 }

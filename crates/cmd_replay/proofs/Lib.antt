@@ -1,0 +1,4 @@
+pub mod Giving
+pub mod Playing
+pub mod Reaching
+pub mod Noting

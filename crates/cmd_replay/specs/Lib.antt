@@ -1,0 +1,4 @@
+pub mod Piece
+pub mod Reached
+pub mod Noted
+pub mod End

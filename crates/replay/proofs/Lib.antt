@@ -1,3 +1,0 @@
-pub mod Advancing
-pub mod Reaching
-pub mod Noting
