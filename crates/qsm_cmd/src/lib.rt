@@ -90,16 +90,24 @@ fn by_word() -> Status {
     start(&word[..n], 2)
 }
 
-// The command that a link's name tells, behind `qsm-`, or else argument 1.
+// The command that a path's last word tells behind `qsm-`, or else argument 1.
+fn by_name(path: &[u8]) -> Status {
+    let at = shell::target::folder(path);
+    if path.len() - at < 4 {
+        return by_word();
+    }
+    let behind = at + 4;
+    if check::same(&path[at..behind], b"qsm-") {
+        return start(&path[behind..], 1);
+    }
+    by_word()
+}
+
+// What it was called by, which may be a link.
 fn by_link() -> Status {
     let mut path = io::buffer();
     let n = os::arg(0, &mut path);
-    let at = shell::target::folder(&path[..n]);
-    let name = &path[at..n];
-    if named::is_link(name) {
-        return start(&name[4..], 1);
-    }
-    by_word()
+    by_name(&path[..n])
 }
 
 // What C's main calls; it finds the arguments itself.

@@ -7,7 +7,7 @@ pub struct Ran {
     pub status: Status,
 }
 
-fn ran(status: Status) -> Ran {
+fn done(status: Status) -> Ran {
     Ran {
         known: true,
         status,
@@ -17,13 +17,13 @@ fn ran(status: Status) -> Ran {
 // Of what a trace does.
 fn of_traces(name: &[u8], from: usize) -> Ran {
     if check::same(name, b"replay") {
-        return ran(cmd_replay::run(from));
+        return done(cmd_replay::run(from));
     }
     if check::same(name, b"lines") {
-        return ran(cmd_lines::run(from));
+        return done(cmd_lines::run(from));
     }
     if check::same(name, b"wave") {
-        return ran(cmd_wave::run(from));
+        return done(cmd_wave::run(from));
     }
     Ran {
         known: false,
@@ -34,10 +34,10 @@ fn of_traces(name: &[u8], from: usize) -> Ran {
 // Of logs.
 fn of_logs(name: &[u8], from: usize) -> Ran {
     if check::same(name, b"show") {
-        return ran(cmd_show::run(from));
+        return done(cmd_show::run(from));
     }
     if check::same(name, b"compare") {
-        return ran(cmd_compare::run(from));
+        return done(cmd_compare::run(from));
     }
     Ran {
         known: false,
@@ -48,16 +48,16 @@ fn of_logs(name: &[u8], from: usize) -> Ran {
 // Of the queue, settings and indexes.
 fn of_files(name: &[u8], from: usize) -> Ran {
     if check::same(name, b"plan") {
-        return ran(cmd_plan::run(from));
+        return done(cmd_plan::run(from));
     }
     if check::same(name, b"editions") {
-        return ran(cmd_editions::run(from));
+        return done(cmd_editions::run(from));
     }
     if check::same(name, b"index") {
-        return ran(cmd_index::run(from));
+        return done(cmd_index::run(from));
     }
     if check::same(name, b"find") {
-        return ran(cmd_find::run(from));
+        return done(cmd_find::run(from));
     }
     Ran {
         known: false,
@@ -93,12 +93,4 @@ pub fn is_version(name: &[u8]) -> bool {
         return true;
     }
     check::same(name, b"--version")
-}
-
-// Whether a program's name begins with `qsm-`.
-pub fn is_link(name: &[u8]) -> bool {
-    if name.len() < 4 {
-        return false;
-    }
-    check::same(&name[..4], b"qsm-")
 }
