@@ -12,7 +12,8 @@ use Rattle.sci.specs.model.Status.{has, raise, raiseIf, fall, fallIf, markSeen}
 use Rattle.sci.specs.model.Framer.{framed, fixed, startBit}
 use Rattle.sci.specs.model.Receiver.{outcome, raised, entered, statusAfter, receiverAfter, received}
 use Rattle.sci.specs.model.Transmitter.{sent, ends, beginsFrame}
-use Rattle.sci.specs.model.Serial.{sccr1Word, active, due, heard, afterSent, prescaled, sampled, clocked, wroteSccr0, wroteSccr1, sccr0Guarded, sccr1Guarded}
+use Rattle.sci.specs.model.Serial.{sccr1Word, active, due, heard, prescaled, sampled, clocked, wroteSccr0, wroteSccr1, sccr0Guarded, sccr1Guarded}
+use Rattle.sci.specs.model.Parts.{afterSent}
 use Rattle.sci.specs.claims.Members.{member}
 use Rattle.sci.specs.declared.serial.Sci.{Sci}
 use Rattle.sci.specs.declared.status.Status.{Status}
