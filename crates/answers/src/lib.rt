@@ -1,4 +1,6 @@
 // The bytes of an answer in a log: its kinds and their lengths, its fields in order, and where each stands.
+#![tactic(auto)]
+
 ghost use Rattle.std.specs.Prelude.{◌≡◌};
 ghost use Rattle.answers.specs.Answer.{length_of, known_kind, field_count, bytes_of};
 ghost use Rattle.answers.specs.Field.{field_at, field_number};
@@ -16,7 +18,7 @@ pub const PLAIN_LENGTH: usize = 10;
 pub const CLOCKED_LENGTH: usize = 18;
 
 // The fields of an answer, in order.
-#[derive(Drop)]
+#[derive(Clone, Copy)]
 pub enum Field {
     Kind,
     Refusal,

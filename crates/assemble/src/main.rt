@@ -1,4 +1,6 @@
 // Makes a trace from lines of text, in the form that `show --trace` prints. The trace is replaced whole or not at all.
+#![tactic(auto)]
+
 use files::message::{fail, say, say_first};
 use files::output::write_first;
 use libc::STDOUT_FILENO;

@@ -8,7 +8,7 @@ use tool_assemble::encode::encode;
 use tool_assemble::item::{Fault, Item};
 use tool_assemble::sent::Sent;
 
-#[derive(Drop)]
+#[derive(Clone, Copy)]
 pub enum Next {
     More,
     Done,
@@ -19,7 +19,7 @@ pub enum Next {
 }
 
 // Where a run stands: the bytes of a line that are there, its number from 1, and the records written.
-#[derive(Drop)]
+#[derive(Clone, Copy)]
 pub struct Run {
     pub line: [u8; 1024],
     pub have: usize,
@@ -27,7 +27,7 @@ pub struct Run {
     pub records: u64,
 }
 
-#[derive(Drop)]
+#[derive(Clone, Copy)]
 pub struct Turned {
     pub run: Run,
     pub next: Next,
@@ -57,7 +57,7 @@ fn send_byte(out: i32, s: Sent, byte: u8, k: u32) -> bool
 }
 
 // The records written, and whether they could be.
-#[derive(Drop)]
+#[derive(Clone, Copy)]
 struct Wrote {
     ok: bool,
     records: u64,

@@ -1,4 +1,6 @@
 // Parity in two forms, each over a lent slice of words in a loop of its own, for `bench/parity`.
+#![tactic(auto)]
+
 ghost use Rattle.std.specs.Prelude.{◌≡◌};
 ghost use Rattle.sci.specs.model.Bits.{odd};
 ghost use Rattle.bench_parities.specs.Tally.{tally};

@@ -1,4 +1,6 @@
 // The vote over three samples in two forms, each over a lent slice of triples in a loop of its own, for `bench/vote`.
+#![tactic(auto)]
+
 ghost use Rattle.std.specs.Prelude.{◌≡◌};
 ghost use Rattle.sci.specs.model.Bits.{vote};
 ghost use Rattle.bench_votes.specs.Tally.{number, added, tally};

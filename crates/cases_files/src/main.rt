@@ -1,4 +1,6 @@
 // Cases of what programs share: words and numbers of a command, two files, and a file that is replaced.
+#![tactic(auto)]
+
 use libc::STDOUT_FILENO;
 use text::number::Number;
 

@@ -1,5 +1,7 @@
 // Runs of the queue beyond the marked examples, held to what they write: a character for each clock where the lines are
 // drawn, else the clocks counted and the words stored. MISO is wired to MOSI.
+#![tactic(auto)]
+
 use qspi::{Pins, Qspi};
 
 fn say(text: &[u8]) {

@@ -3,7 +3,7 @@ ghost use Rattle.std.specs.Prelude.{◌≤◌};
 
 use sci::framer::Framer;
 
-#[derive(Drop)]
+#[derive(Clone, Copy)]
 pub(crate) struct Ear {
     framer: Framer,
     last1: bool,

@@ -1,5 +1,6 @@
 // Senders whose bits last 14 to 18 samples instead of 16: how many of all words of 8 and of 9 bits arrive right, with sampling points that stay
 // and with points that move; and the same of the words whose falls, from the start bit's on, and the stop bit stand few bits apart.
+#![tactic(auto)]
 
 mod ear;
 
@@ -73,7 +74,7 @@ fn number(n: u64) {
 }
 
 // Words that arrive with points that stay and with points that move; words whose falls are near to each other, and how many of them arrive.
-#[derive(Drop)]
+#[derive(Clone, Copy)]
 struct Counts {
     stay: u64,
     moving: u64,

@@ -1,5 +1,6 @@
 // Cases of document 01's serial half, run through the code: standard input has them, and says how a line is read. A line's name is
 // printed with what came out: SCDR and SCSR in hexadecimal with the names of the flags that are set, RWU, and TXD a bit at a time.
+#![tactic(auto)]
 
 mod act;
 mod line;
@@ -17,7 +18,7 @@ const ACTS: u8 = 2;
 const PASSED_OVER: u8 = 3;
 
 // The serial half, and the act that waits for the rest of its number.
-#[derive(Drop)]
+#[derive(Clone, Copy)]
 struct Run {
     sci: Sci,
     place: u8,

@@ -1,6 +1,7 @@
 // Cases of document 01's module and trace, played through the code: standard input has them, and says how a line is read. For each
 // its name is printed, each answer in hexadecimal, the refusal that stopped the trace or 0, the bytes read and written, and whether
 // the output past the answers is as it was.
+#![tactic(auto)]
 
 mod parse;
 mod show;

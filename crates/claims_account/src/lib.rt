@@ -1,4 +1,6 @@
 // Document 02, L14: the law of the account of characters, over every history since a reset.
+#![tactic(auto)]
+
 ghost use Rattle.std.specs.Prelude.{◌≡◌, true};
 ghost use Rattle.claims_account.specs.Claims.{Claims};
 ghost use Rattle.claims_account.specs.Losing.{Losing};

@@ -1,5 +1,7 @@
 // Document 01's clauses on flags and on the receiver, and document 02's L1, as laws of the definitions below: each told by what a host gets or
 // by plain counts of samples, so that a definition that is wrong breaks it. There is nothing to compute: the contract is the statement.
+#![tactic(auto)]
+
 ghost use Rattle.std.specs.Prelude.{◌≡◌, true};
 ghost use Rattle.claims_clauses.specs.FlagsFall.{FlagClauses};
 ghost use Rattle.claims_clauses.specs.SeenBy.{SeenClauses};

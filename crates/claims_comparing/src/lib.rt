@@ -1,4 +1,6 @@
 // Document 02, L2 and L9: what is shown of comparing two logs, in the numbers of the papers.
+#![tactic(auto)]
+
 ghost use Rattle.std.specs.Prelude.{◌≡◌, true};
 ghost use Rattle.claims_comparing.specs.Claims.{Claims};
 

@@ -1,4 +1,6 @@
 // How long a word may wait in SCDR, so that no frame is lost: what firmware needs that requests drive.
+#![tactic(auto)]
+
 ghost use Rattle.std.specs.Prelude.{true, ◌≡◌};
 ghost use Rattle.claims_deadlines.specs.Claims.{Claims};
 

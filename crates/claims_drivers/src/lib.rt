@@ -1,4 +1,6 @@
 // Demand 3 over lists that hold driver accesses, claims and releases too (02, L11), held by a contract.
+#![tactic(auto)]
+
 ghost use Rattle.std.specs.Prelude.{true, ◌≡◌};
 ghost use Rattle.claims_drivers.specs.Demand3.{DrivenDemand3};
 

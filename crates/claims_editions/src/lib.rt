@@ -1,4 +1,6 @@
 // Document 02, L6: what is shown of editions by the calls that were made, and by a buffer's bytes.
+#![tactic(auto)]
+
 ghost use Rattle.std.specs.Prelude.{◌≡◌, true};
 ghost use Rattle.claims_editions.specs.Claims.{Claims};
 

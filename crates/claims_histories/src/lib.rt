@@ -1,4 +1,6 @@
 // The users' demands as claims about lists of the module's events, each held by a contract.
+#![tactic(auto)]
+
 ghost use Rattle.std.specs.Prelude.{true, ◌≡◌};
 ghost use Rattle.claims_histories.specs.Demand2.{Demand2};
 ghost use Rattle.claims_histories.specs.Sentence.{Sentence, CanArrive};

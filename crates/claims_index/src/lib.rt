@@ -1,4 +1,6 @@
 // Document 02, L13: what is shown of an index, by a walk over the lengths of a trace's records.
+#![tactic(auto)]
+
 ghost use Rattle.std.specs.Prelude.{◌≡◌, true};
 ghost use Rattle.claims_index.specs.Claims.{Claims};
 

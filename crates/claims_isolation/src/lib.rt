@@ -1,4 +1,6 @@
 // Two drivers share one queue: what the one is answered does not depend on the data of the other (02, L11).
+#![tactic(auto)]
+
 ghost use Rattle.std.specs.Prelude.{◌≡◌, true};
 ghost use Rattle.claims_isolation.specs.Twins.{Isolation};
 ghost use Rattle.claims_isolation.specs.Witness.{BothMet};

@@ -1,4 +1,6 @@
 // Document 02, L12: what is shown of a verdict on a log, in the numbers of the papers.
+#![tactic(auto)]
+
 ghost use Rattle.std.specs.Prelude.{◌≡◌, true};
 ghost use Rattle.claims_judging.specs.Claims.{Claims};
 

@@ -1,4 +1,6 @@
 // Document 02, L8: a line handed over is what came on the wire.
+#![tactic(auto)]
+
 ghost use Rattle.std.specs.Prelude.{true, ◌≡◌};
 ghost use Rattle.claims_lines.specs.Claims.{Claims};
 ghost use Rattle.claims_lines.specs.Witness.{Met};

@@ -1,4 +1,6 @@
 // Document 02, L10: what is shown of accepted plans however they were loaded, and under a host that reads while they run.
+#![tactic(auto)]
+
 ghost use Rattle.std.specs.Prelude.{◌≡◌, true};
 ghost use Rattle.claims_plans.specs.Claims.{Claims};
 

@@ -1,4 +1,6 @@
 // Document 02, L8: how often a receiver has to be polled so that no frame is lost.
+#![tactic(auto)]
+
 ghost use Rattle.std.specs.Prelude.{true, ◌≡◌};
 ghost use Rattle.claims_polling.specs.Spacing.{Spacing};
 ghost use Rattle.claims_polling.specs.Rule.{Rule};

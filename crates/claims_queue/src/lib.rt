@@ -1,5 +1,7 @@
 // Document 01's Queue by its own numbers: an entry clock by clock, what follows it, what writes and a mode fault do, with no definition of the
 // model cited. There is nothing to compute: the contract is the statement.
+#![tactic(auto)]
+
 ghost use Rattle.std.specs.Prelude.{◌≡◌, true};
 ghost use Rattle.claims_queue.specs.Claims.{Claims};
 

@@ -1,5 +1,7 @@
 // The receiver by number: silence with RE clear, the three samples before a start through holds, idle lines, moved points; and how long TXD is
 // driven. There is nothing to compute: the contract is the statement.
+#![tactic(auto)]
+
 ghost use Rattle.std.specs.Prelude.{◌≡◌, true};
 ghost use Rattle.claims_receiver.specs.Claims.{Claims};
 

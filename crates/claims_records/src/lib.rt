@@ -1,4 +1,6 @@
 // Each record of a trace by its own bytes, and each answer's. There is nothing to compute: the contract is the statement.
+#![tactic(auto)]
+
 ghost use Rattle.std.specs.Prelude.{◌≡◌, true};
 ghost use Rattle.claims_records.specs.Records.{Claims};
 

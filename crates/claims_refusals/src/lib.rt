@@ -1,5 +1,7 @@
 // What is shown of the module and its trace: demand 1 and the marked examples. Where there is nothing to compute the contract is the
 // statement, so that it can't be left out unnoticed.
+#![tactic(auto)]
+
 ghost use Rattle.std.specs.Prelude.{◌≡◌, true};
 ghost use Rattle.claims_refusals.specs.Demand1.{Demand1, Written};
 ghost use Rattle.claims_refusals.specs.Marked.{Marked};

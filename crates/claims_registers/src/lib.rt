@@ -1,5 +1,7 @@
 // Registers written by bytes, users' accesses, and pins and requests told by what a host reads, in document 01's numbers. There is nothing to
 // compute: the contract is the statement.
+#![tactic(auto)]
+
 ghost use Rattle.std.specs.Prelude.{◌≡◌, true};
 ghost use Rattle.claims_registers.specs.Claims.{Claims};
 

@@ -1,4 +1,6 @@
 // Document 02, L8: what is shown of where the polls of a replay fall, what stops it, and what a call is refused for.
+#![tactic(auto)]
+
 ghost use Rattle.std.specs.Prelude.{◌≡◌, true};
 ghost use Rattle.claims_schedule.specs.Claims.{Claims};
 

@@ -1,5 +1,7 @@
 // A sender that is not exact is heard word by word: off-rate, with jitter, at any phase, with or without pauses. Over a module's events:
 // claims_through.
+#![tactic(auto)]
+
 ghost use Rattle.std.specs.Prelude.{◌≡◌, true};
 ghost use Rattle.claims_senders.specs.Heard.{FramesHeard};
 ghost use Rattle.claims_senders.specs.Witness.{Played};

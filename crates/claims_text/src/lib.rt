@@ -1,4 +1,6 @@
 // A text that is sent to a receiver at a rate that need not be its own comes byte by byte, and line by line.
+#![tactic(auto)]
+
 ghost use Rattle.std.specs.Prelude.{true, ◌≡◌};
 ghost use Rattle.claims_text.specs.Text.{TextWords};
 ghost use Rattle.claims_text.specs.Lines.{TextLines};

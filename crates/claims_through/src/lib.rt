@@ -1,4 +1,6 @@
 // A sender that is not exact comes through: over the module's events its words come one by one, with no error flag.
+#![tactic(auto)]
+
 ghost use Rattle.std.specs.Prelude.{true, ◌≡◌};
 ghost use Rattle.claims_through.specs.Through.{Through};
 ghost use Rattle.claims_through.specs.Replayed.{Replayed};

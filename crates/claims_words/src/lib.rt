@@ -1,4 +1,6 @@
 // Document 02, L1: the words that enter SCDR clock by clock, each with its noise figure, and how the modules before and after an event tell them.
+#![tactic(auto)]
+
 ghost use Rattle.std.specs.Prelude.{◌≡◌, true};
 ghost use Rattle.claims_words.specs.Claims.{Claims};
 

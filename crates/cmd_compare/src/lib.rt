@@ -1,5 +1,7 @@
 // The command `compare`: which answers of two logs differ, in which fields, and what one has more. It takes files of any length and reads them twice:
 // once for the verdict, once to show the differing answers.
+#![tactic(auto)]
+
 use console::output::{Out, flush, put_line};
 use console::status::{Status, worse};
 use files::message::{fail, say};

@@ -11,7 +11,7 @@ use tool_compare::Compared;
 use tool_compare::kinds::{first_other, kind_of, mixed, stride_of};
 
 // An answer that does not begin with the logs' kind: which log's, A or B, its number and its place in bytes, what it begins with, and the kind.
-#[derive(Drop)]
+#[derive(Clone, Copy)]
 pub struct Other {
     pub letter: u8,
     pub answer: u64,
@@ -21,7 +21,7 @@ pub struct Other {
 }
 
 // What follows: more pieces; the end of both logs; a refusal; or a log that can't be read, the first or the second, or an output that can't be written.
-#[derive(Drop)]
+#[derive(Clone, Copy)]
 pub enum End {
     More,
     Done,
@@ -31,7 +31,7 @@ pub enum End {
     NotWritten,
 }
 
-#[derive(Drop)]
+#[derive(Clone, Copy)]
 pub struct Pieced {
     pub tally: Tally,
     pub count: u64,

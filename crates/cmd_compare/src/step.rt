@@ -7,7 +7,7 @@ use crate::show::put_list;
 use crate::tally::{Tally, answers_of};
 use console::output::Out;
 
-#[derive(Drop)]
+#[derive(Clone, Copy)]
 pub struct Turned {
     pub tally: Tally,
     pub out: Out,

@@ -7,7 +7,7 @@ use tool_compare::Compared;
 
 // What has been compared so far: the logs' kind, or 0 before the first piece; whether a log ended within an answer; how many answers differ;
 // and the bytes of each log.
-#[derive(Drop)]
+#[derive(Clone, Copy)]
 pub struct Tally {
     pub kind: u8,
     pub cut: bool,

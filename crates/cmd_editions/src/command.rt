@@ -6,7 +6,7 @@ use shell::arguments::Seen;
 use text::number::{Number, parse_number};
 use tool_editions::records::Edition;
 
-#[derive(Drop)]
+#[derive(Clone, Copy)]
 pub enum Verb {
     Add(Edition),
     Withdraw(u16),
@@ -16,7 +16,7 @@ pub enum Verb {
     Unknown,
 }
 
-#[derive(Drop)]
+#[derive(Clone, Copy)]
 pub enum Word {
     Is(u16),
     NoWord,

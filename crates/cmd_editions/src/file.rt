@@ -5,7 +5,7 @@ use files::message::say;
 use files::pieces::fill;
 use shell::message::fail;
 
-#[derive(Drop)]
+#[derive(Clone, Copy)]
 pub struct Loaded {
     pub read: bool,
     pub used: usize,

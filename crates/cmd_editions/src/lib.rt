@@ -1,4 +1,6 @@
 // The command `editions`: keeps register settings by edition in a file; adds, withdraws, gives and lists them. The file is replaced whole or not at all.
+#![tactic(auto)]
+
 use command::Verb;
 use console::output::{Out, flush, put, put_line};
 use console::status::Status;

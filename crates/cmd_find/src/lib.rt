@@ -1,4 +1,6 @@
 // The command `find`: a record of a trace by its number, with an index of the trace or of a beginning of it.
+#![tactic(auto)]
+
 use answer::{missing_line, put_found, status};
 use console::message::say_line;
 use console::output::{Out, flush};

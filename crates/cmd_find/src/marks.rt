@@ -8,7 +8,7 @@ use files::pieces::{Filled, fill};
 use tool_index::stored::{BYTES, decode};
 
 // Whether a file of marks could be read, and how many it has.
-#[derive(Drop)]
+#[derive(Clone, Copy)]
 pub struct Marks {
     pub read: bool,
     pub count: usize,

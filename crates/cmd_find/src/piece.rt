@@ -8,7 +8,7 @@ use tool_index::walk::Position;
 use trace::Parsed;
 
 // More bytes are needed to tell; there is no such record; or the record, by its kind and its event.
-#[derive(Drop)]
+#[derive(Clone, Copy)]
 pub enum What {
     More,
     Missing,
@@ -16,7 +16,7 @@ pub enum What {
 }
 
 // Where a walk has come, how many bytes of the piece it passed, and what stands there.
-#[derive(Drop)]
+#[derive(Clone, Copy)]
 pub struct Looked {
     pub at: Position,
     pub read: usize,

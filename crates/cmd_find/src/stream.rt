@@ -5,7 +5,7 @@ use files::whole::seek;
 use tool_index::walk::Position;
 
 // Where the reading stands: the input, what it has come to, and whether it could be read.
-#[derive(Drop)]
+#[derive(Clone, Copy)]
 pub struct Turned {
     pub source: Source,
     pub looked: Looked,

@@ -1,4 +1,6 @@
 // The command `index`: makes an index of a trace, or extends one: a file of marks, which is replaced whole or not at all.
+#![tactic(auto)]
+
 use answer::{count_line, keeps, status};
 use cmd_find::marks::read_marks;
 use console::message::say_line;

@@ -8,7 +8,7 @@ use files::pieces::least;
 use tool_index::index::Indexed;
 use tool_index::walk::Position;
 
-#[derive(Drop)]
+#[derive(Clone, Copy)]
 pub enum Next {
     More,
     Done,
@@ -18,7 +18,7 @@ pub enum Next {
 }
 
 // Where the next piece begins, the marks so far, the bytes of the piece that were passed, and what follows.
-#[derive(Drop)]
+#[derive(Clone, Copy)]
 pub struct Made {
     pub at: Position,
     pub marks: usize,

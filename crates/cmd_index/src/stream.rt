@@ -5,7 +5,7 @@ use files::whole::seek;
 use tool_index::walk::Position;
 
 // The input, and how far the index has come.
-#[derive(Drop)]
+#[derive(Clone, Copy)]
 pub struct Turned {
     pub source: Source,
     pub made: Made,

@@ -7,7 +7,7 @@ use tool_lines::line::Outcome;
 use tool_lines::piece::go_on_piece;
 
 // Where a run stands: the gatherer's state, whose place counts from the piece's first byte, what its last call told, and whether a line was dropped.
-#[derive(Drop)]
+#[derive(Clone, Copy)]
 pub struct Run {
     pub state: Lines,
     pub told: Outcome,

@@ -1,4 +1,6 @@
 // The command `lines`: replays a trace with polling put in, and writes the lines that come of it; from a file or from standard input, of any length.
+#![tactic(auto)]
+
 ghost use Rattle.std.specs.Prelude.{◌≡◌, min};
 
 use console::message::say_line;

@@ -8,14 +8,14 @@ use console::output::Out;
 use tool_lines::line::Outcome;
 
 // What is asked for: the clocks from poll to poll, and whether the noise of lines is.
-#[derive(Drop)]
+#[derive(Clone, Copy)]
 pub struct Wanted {
     pub period: u32,
     pub noise: bool,
 }
 
 // Where a run stands after a piece, the output of lines, and that of words.
-#[derive(Drop)]
+#[derive(Clone, Copy)]
 pub struct Went {
     pub run: Run,
     pub lines: Out,

@@ -10,7 +10,7 @@ use files::pieces::counted;
 use tool_lines::line::Outcome;
 
 // The input, and where the run stands.
-#[derive(Drop)]
+#[derive(Clone, Copy)]
 struct Turned {
     source: Source,
     went: Went,
@@ -18,7 +18,7 @@ struct Turned {
 
 // How a replay ended: whether the trace could not be read, what was told last and at which place in bytes, whether a line was dropped, and the two
 // outputs, in whose buffers something may wait.
-#[derive(Drop)]
+#[derive(Clone, Copy)]
 pub struct End {
     pub unread: bool,
     pub told: Outcome,

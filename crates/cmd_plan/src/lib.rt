@@ -1,4 +1,6 @@
 // The command `plan`: set-points and a window in, the quickest plan out, as text or as a trace for `replay`.
+#![tactic(auto)]
+
 ghost use Rattle.std.specs.Prelude.{◌≤◌};
 
 use console::message::say_line;

@@ -3,7 +3,7 @@ use crate::read::Reading;
 use files::pieces::fill;
 
 // The reading, whether the text has ended, and whether it could not be read.
-#[derive(Drop)]
+#[derive(Clone, Copy)]
 pub struct Points {
     pub reading: Reading,
     pub ended: bool,

@@ -3,7 +3,7 @@ use tool_plan::SetPoints;
 
 // Where the reading stands: the set-points so far; the words that this line has given, and the one under way, with its place; the line and
 // the column, from 1.
-#[derive(Drop)]
+#[derive(Clone, Copy)]
 pub struct Reading {
     pub points: SetPoints,
     pub select: u8,

@@ -4,7 +4,7 @@ use shell::message::say_of;
 use text::number::{Number, parse_number};
 
 // CPOL, CPHA, the least SPBR and DSCKL, a trace; the window. Where a number is not understood, which is said, it is not good.
-#[derive(Drop)]
+#[derive(Clone, Copy)]
 pub struct Wanted {
     pub good: bool,
     pub cpol: bool,

@@ -1,4 +1,6 @@
 // The command `replay`: a trace played on a module fresh from reset, from a file or from standard input, of any length, to a log on standard output.
+#![tactic(auto)]
+
 use console::message::say_line;
 use console::output::flush;
 use console::status::{Status, worse};

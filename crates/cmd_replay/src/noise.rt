@@ -18,7 +18,7 @@ use reception::arrival::{Arrival, arrived};
 use reception::tally::Tally;
 
 // A run, the tally of its words, and where their lines go.
-#[derive(Drop)]
+#[derive(Clone, Copy)]
 pub struct Noted {
     pub turned: Turned,
     pub tally: Tally,

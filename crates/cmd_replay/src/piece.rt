@@ -10,7 +10,7 @@ use qsm::state::Module;
 use trace::Stop;
 
 // The module, and the records answered.
-#[derive(Drop)]
+#[derive(Clone, Copy)]
 pub struct Run {
     pub state: Module,
     pub records: u64,
@@ -30,7 +30,7 @@ impl Run {
 }
 
 // What follows a piece: there is more of it to play, or more is read; or the end.
-#[derive(Drop)]
+#[derive(Clone, Copy)]
 pub enum Next {
     Play,
     Read,
@@ -41,7 +41,7 @@ pub enum Next {
 }
 
 // Where the run stands, the output, how many bytes of the piece were played, why they were no more, and what follows.
-#[derive(Drop)]
+#[derive(Clone, Copy)]
 pub struct Stepped {
     pub run: Run,
     pub out: Out,

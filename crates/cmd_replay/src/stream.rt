@@ -9,7 +9,7 @@ use console::output::{Out, flush};
 use files::pieces::{counted, least};
 
 // The run, the output, the input with how many bytes of its buffer were played, and what follows.
-#[derive(Drop)]
+#[derive(Clone, Copy)]
 pub struct Turned {
     pub run: Run,
     pub out: Out,

@@ -10,7 +10,7 @@ use text::log::Entry;
 use text::message::Fault;
 use trace::Parsed;
 
-#[derive(Drop)]
+#[derive(Clone, Copy)]
 pub enum What {
     Shown,
     More,
@@ -18,7 +18,7 @@ pub enum What {
 }
 
 // The line is empty, and the size 0, where nothing is shown.
-#[derive(Drop)]
+#[derive(Clone, Copy)]
 pub struct Item {
     pub what: What,
     pub line: Line,

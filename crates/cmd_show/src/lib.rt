@@ -1,4 +1,6 @@
 // The command `show`: a log, or with --trace a trace, as text, a line an answer or record, from a file or from standard input, of any length.
+#![tactic(auto)]
+
 use console::message::say_line;
 use console::output::flush;
 use console::status::Status;

@@ -7,7 +7,7 @@ use console::output::{Out, put_line};
 use files::pieces::counted;
 
 // Where a run stands: the first byte of the answer or record before, or 0 at the start; the number of the next one, and its place in the piece.
-#[derive(Drop)]
+#[derive(Clone, Copy)]
 pub struct Run {
     pub kind: u8,
     pub number: u64,
@@ -15,7 +15,7 @@ pub struct Run {
 }
 
 // Where it stands afterwards, the output, and what stands there.
-#[derive(Drop)]
+#[derive(Clone, Copy)]
 pub struct Went {
     pub run: Run,
     pub out: Out,

@@ -9,7 +9,7 @@ use console::output::{Out, flush};
 use files::pieces::counted;
 use text::message::Fault;
 
-#[derive(Drop)]
+#[derive(Clone, Copy)]
 pub enum Next {
     More,
     Done,
@@ -18,7 +18,7 @@ pub enum Next {
     NotWritten,
 }
 
-#[derive(Drop)]
+#[derive(Clone, Copy)]
 pub struct Turned {
     pub run: Run,
     pub source: Source,

@@ -1,4 +1,6 @@
 // The command `wave`: draws a trace as a VCD file, what its pins, inputs and request do; from a file or from standard input, of any length.
+#![tactic(auto)]
+
 ghost use Rattle.std.specs.Prelude.{◌≡◌};
 ghost use Rattle.cmd_wave.specs.Rate.{rate};
 

@@ -9,7 +9,7 @@ use tool_wave::vcd::step_text;
 use tool_wave::{Outcome, Turned, Waves, go_on};
 
 // Where a drawing stands after a piece, with what its last turn told, and the output.
-#[derive(Drop)]
+#[derive(Clone, Copy)]
 pub struct Went {
     pub turned: Turned,
     pub out: Out,

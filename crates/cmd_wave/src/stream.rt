@@ -7,7 +7,7 @@ use files::pieces::counted;
 use tool_wave::{Outcome, Turned};
 
 // The input, and where the drawing stands.
-#[derive(Drop)]
+#[derive(Clone, Copy)]
 struct Drawing {
     source: Source,
     went: Went,
@@ -15,7 +15,7 @@ struct Drawing {
 
 // How a drawing ended: whether the trace could not be read, what was told last, at which place in bytes and at which clock since the start, and the
 // output, in whose buffer something may wait.
-#[derive(Drop)]
+#[derive(Clone, Copy)]
 pub struct End {
     pub unread: bool,
     pub told: Outcome,

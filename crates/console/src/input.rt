@@ -5,7 +5,7 @@ ghost use Rattle.console.specs.Input.{Reads};
 use files::pieces::{carry, counted, fill};
 
 // Where an input stands.
-#[derive(Drop)]
+#[derive(Clone, Copy)]
 pub struct Source {
     pub fd: i32,
     // It has places, as a plain file: a read of it does not wait for somebody.

@@ -1,4 +1,6 @@
 // What commands share at the console: what they write, the statuses that they end with, and the words of their messages.
+#![tactic(auto)]
+
 pub mod input;
 pub mod message;
 pub mod output;

@@ -7,7 +7,7 @@ use files::pieces::least;
 use text::line::Line;
 
 // Where an output stands.
-#[derive(Drop)]
+#[derive(Clone, Copy)]
 pub struct Out {
     pub fd: i32,
     // Each text is handed on at once, as to a terminal.
@@ -19,7 +19,7 @@ pub struct Out {
 }
 
 // How many bytes the system took of those handed to it, and whether it then refused more.
-#[derive(Drop)]
+#[derive(Clone, Copy)]
 struct Handed {
     taken: usize,
     failed: bool,

@@ -11,7 +11,7 @@ use qsm::state::Module;
 
 // Of the host: a reset that names s, a hold of pin levels, an RXD level and so many clocks, an access. Of a driver: an access, a claim, a
 // release.
-#[derive(Drop)]
+#[derive(Clone, Copy)]
 pub enum Event {
     Reset(u8),
     Hold(u8, bool, u32),
@@ -21,7 +21,7 @@ pub enum Event {
     Release(Driver),
 }
 
-#[derive(Drop)]
+#[derive(Clone, Copy)]
 pub struct Stepped {
     pub state: Shared,
     pub answer: Answer,

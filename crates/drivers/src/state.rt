@@ -5,7 +5,7 @@ ghost use Rattle.drivers.specs.State.{new_shared, other, number_of, holds, prope
 use qsm::state::Module;
 
 // The two drivers of the queue.
-#[derive(Drop)]
+#[derive(Clone, Copy)]
 pub enum Driver {
     Axis,
     Spindle,
@@ -14,7 +14,7 @@ pub enum Driver {
 // The module; the first entry of the spindle driver, 0 before the first reset; and who holds the claim: 1 the axis driver, 2 the spindle
 // driver, 0 nobody.
 #[repr(C)]
-#[derive(Drop)]
+#[derive(Clone, Copy)]
 pub struct Shared {
     pub qsm: Module,
     pub split: u8,

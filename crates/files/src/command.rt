@@ -9,7 +9,7 @@ use crate::words::{Word, is_option, kind};
 use libc::{STDERR_FILENO, STDOUT_FILENO};
 
 // Whether the program goes on, or something was wrong; whether its option is given and the second one, and how many words there are beside options.
-#[derive(Drop)]
+#[derive(Clone, Copy)]
 pub struct Command {
     pub go: bool,
     pub wrong: bool,
@@ -20,7 +20,7 @@ pub struct Command {
 
 // The words of a command: whether --help, --version and the program's options stand among them, the place of an option that is not known, or 0,
 // and how many are no options.
-#[derive(Drop)]
+#[derive(Clone, Copy)]
 struct Seen {
     help: bool,
     version: bool,

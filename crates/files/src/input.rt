@@ -7,7 +7,7 @@ use crate::words::join;
 use libc::STDIN_FILENO;
 
 // A descriptor, or a negative number where there is none, and how long its name is.
-#[derive(Drop)]
+#[derive(Clone, Copy)]
 pub struct Input {
     pub fd: i32,
     pub name: usize,

@@ -1,5 +1,7 @@
 // Files, arguments and messages, so that a program is a page. It is the one library here that rests on what the C library's functions are
 // assumed to do: what is read and written, no contract can say.
+#![tactic(auto)]
+
 pub mod command;
 pub mod input;
 pub mod message;

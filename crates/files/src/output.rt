@@ -12,7 +12,7 @@ pub fn write_first(fd: i32, bytes: &[u8], n: usize) -> bool {
 }
 
 // A file that is being written: its descriptor, or a negative number where there is none, and how long its name is.
-#[derive(Drop)]
+#[derive(Clone, Copy)]
 pub struct Output {
     pub fd: i32,
     pub name: usize,

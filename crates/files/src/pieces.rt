@@ -6,7 +6,7 @@ ghost use Rattle.files.specs.Pieces.{counted, carried, left, Fills};
 use crate::progress::tell;
 
 // How many bytes the buffer now has, whether the input has ended, and whether it could not be read.
-#[derive(Drop)]
+#[derive(Clone, Copy)]
 pub struct Filled {
     pub total: usize,
     pub ended: bool,

@@ -4,7 +4,7 @@ ghost use Rattle.io.specs.Counts.{IsPrefixLen};
 use crate::message::fail;
 
 // Whether a file could be read, how many of its bytes are in the buffer, and whether it has more.
-#[derive(Drop)]
+#[derive(Clone, Copy)]
 pub struct Contents {
     pub read: bool,
     pub count: usize,

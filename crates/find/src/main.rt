@@ -1,4 +1,6 @@
 // Finds a record of a trace by its number, with an index: the command `find` of a program.
+#![tactic(auto)]
+
 fn main() {
     cmd_find::run(1);
 }

@@ -1,5 +1,7 @@
 // A module that a host keeps and changes in place: each entry copies the state, calls the step by value and stores the result. `noise`, `taken` and `lost`
 // only look.
+#![tactic(auto)]
+
 ghost use Rattle.std.specs.Prelude.{◌≡◌};
 ghost use Rattle.qsm.specs.model.Event.{answered, resets};
 ghost use Rattle.qsm.specs.declared.event.Event.TheVariants.{Reset, Hold};

@@ -1,4 +1,6 @@
 // Judges a vendor's log of a trace: accepted, or the first wrong answer. It takes files of any length.
+#![tactic(auto)]
+
 use files::message::{fail, say};
 use libc::{STDIN_FILENO, STDOUT_FILENO};
 use run::{Next, Run, Turned};

@@ -2,7 +2,7 @@
 use files::pieces::{carry, fill, least};
 
 // The bytes of a buffer from one place up to another, which are still to be looked at, and whether its input has ended.
-#[derive(Drop)]
+#[derive(Clone, Copy)]
 pub struct Piece {
     pub from: usize,
     pub to: usize,
@@ -36,7 +36,7 @@ pub fn further(p: Piece, n: usize) -> Piece {
 }
 
 // A piece with what comes of its input; none where that can't be read.
-#[derive(Drop)]
+#[derive(Clone, Copy)]
 pub struct Reading {
     pub piece: Piece,
     pub failed: bool,

@@ -10,7 +10,7 @@ use tool_judge::{Verdict, Walked};
 
 // Where a run stands: the module, the records answered and the bytes of the trace that they had, the two pieces, and whether a wrong answer
 // was found.
-#[derive(Drop)]
+#[derive(Clone, Copy)]
 pub struct Run {
     pub state: Module,
     pub records: u64,
@@ -22,7 +22,7 @@ pub struct Run {
 
 // What comes next: another turn, before which more of the trace or of the log is read; or the end, with the refusal that stopped the trace
 // or 0.
-#[derive(Drop)]
+#[derive(Clone, Copy)]
 pub enum Next {
     More,
     Trace,
@@ -32,7 +32,7 @@ pub enum Next {
     NotWritten,
 }
 
-#[derive(Drop)]
+#[derive(Clone, Copy)]
 pub struct Turned {
     pub run: Run,
     pub next: Next,

@@ -7,14 +7,14 @@ use crate::map::decode;
 use crate::state::Module;
 
 // The words read so far, and the offset of the next.
-#[derive(Drop)]
+#[derive(Clone, Copy)]
 pub struct Words {
     pub at: u16,
     pub words: u32,
 }
 
 // A write under way: the module, the offset of the next word, the words to come, and whether one so far is refused.
-#[derive(Drop)]
+#[derive(Clone, Copy)]
 pub struct Store {
     pub state: Module,
     pub at: u16,

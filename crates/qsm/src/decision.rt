@@ -6,7 +6,7 @@ use crate::access::Store;
 use crate::lanes::{in_map, is_restricted};
 use crate::state::Module;
 
-#[derive(Drop)]
+#[derive(Clone, Copy)]
 pub enum Decision {
     Permitted,
     // Stopped by privilege.

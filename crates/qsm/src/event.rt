@@ -12,14 +12,14 @@ use crate::request::{Request, request_of};
 use crate::state::Module;
 
 // An access is a read or a write: as supervisor or as user, a width in bytes, an offset from the module's base; and a value to write.
-#[derive(Drop)]
+#[derive(Clone, Copy)]
 pub enum Access {
     Read(bool, u8, u16),
     Write(bool, u8, u16, u32),
 }
 
 // An event is a reset, a hold of pin levels, an RXD level and so many clocks, or an access.
-#[derive(Drop)]
+#[derive(Clone, Copy)]
 pub enum Event {
     Reset,
     Hold(u8, bool, u32),
@@ -29,7 +29,7 @@ pub enum Event {
 // The refusal's number or 0, the value read, the driven levels and which pins are driven, the request's level and its vector, and the
 // clocks since reset.
 #[repr(C)]
-#[derive(Drop)]
+#[derive(Clone, Copy)]
 pub struct Answer {
     pub refusal: u8,
     pub value: u32,
@@ -41,14 +41,14 @@ pub struct Answer {
 }
 
 // What an event leaves, before its answer.
-#[derive(Drop)]
+#[derive(Clone, Copy)]
 pub struct Done {
     pub state: Module,
     pub refusal: u8,
     pub value: u32,
 }
 
-#[derive(Drop)]
+#[derive(Clone, Copy)]
 pub struct Stepped {
     pub state: Module,
     pub answer: Answer,

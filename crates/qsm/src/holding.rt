@@ -13,7 +13,7 @@ use qspi::{Pins, Qspi};
 use sci::serial::Sci;
 
 // Whether a hold is short for the queue half, and what it then leaves of the entry.
-#[derive(Drop)]
+#[derive(Clone, Copy)]
 pub struct QueueHeld {
     pub short: bool,
     pub left: u16,
@@ -24,7 +24,7 @@ pub struct QueueHeld {
 }
 
 // Whether a hold is short for the serial half, and the prescaler's count that it then leaves.
-#[derive(Drop)]
+#[derive(Clone, Copy)]
 pub struct SerialHeld {
     pub short: bool,
     pub count: u16,

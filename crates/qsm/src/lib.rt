@@ -1,5 +1,7 @@
 // The module: the register map, refusals 1 to 4 and privilege, pins and requests, and the step from one event to the next. It uses the
 // two halves by their contracts alone.
+#![tactic(auto)]
+
 pub mod access;
 mod claims;
 pub mod decision;

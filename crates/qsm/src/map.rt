@@ -2,7 +2,7 @@
 ghost use Rattle.std.specs.Prelude.{◌≡◌};
 ghost use Rattle.qsm.specs.model.Map.{decode, mapped, own_restricted, restricted};
 
-#[derive(Drop)]
+#[derive(Clone, Copy)]
 pub enum OwnWord {
     Qsmcr,
     QilrQivr,
@@ -10,7 +10,7 @@ pub enum OwnWord {
     PqsparDdrqs,
 }
 
-#[derive(Drop)]
+#[derive(Clone, Copy)]
 pub enum SerialWord {
     Sccr0,
     Sccr1,
@@ -19,7 +19,7 @@ pub enum SerialWord {
 }
 
 // SPCR3 stands in the upper byte of its word, SPSR in the lower. The RAM words are numbered from 0 in each block.
-#[derive(Drop)]
+#[derive(Clone, Copy)]
 pub enum QueueWord {
     Spcr0,
     Spcr1,
@@ -30,7 +30,7 @@ pub enum QueueWord {
     Command(u8),
 }
 
-#[derive(Drop)]
+#[derive(Clone, Copy)]
 pub enum Place {
     Own(OwnWord),
     Serial(SerialWord),

@@ -5,7 +5,7 @@ ghost use Rattle.qsm.specs.model.Pins.{outputs, without, select, mask, owned, ow
 use crate::state::Module;
 
 // What the pins depend on: what the two halves put out, and the pin registers.
-#[derive(Drop)]
+#[derive(Clone, Copy)]
 pub struct Outputs {
     pub spe: bool,
     pub mosi: bool,

@@ -8,7 +8,7 @@ fn asked(asks: bool, level: u8) -> u8
     if asks { level } else { 0 }
 }
 
-#[derive(Drop)]
+#[derive(Clone, Copy)]
 pub struct Request {
     pub level: u8,
     pub vector: u8,

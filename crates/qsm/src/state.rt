@@ -6,7 +6,7 @@ use qspi::Qspi;
 use sci::serial::Sci;
 
 #[repr(C)]
-#[derive(Drop)]
+#[derive(Clone, Copy)]
 pub struct Module {
     pub sci: Sci,
     pub qspi: Qspi,

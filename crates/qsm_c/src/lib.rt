@@ -1,5 +1,7 @@
 // The C boundary: a module behind a pointer, which the host keeps, the playing of a trace, the comparing of two logs, the keeping of
 // editions, plans of the queue, and (`shared`) a module that two drivers share. `include/qsm.h` declares it.
+#![tactic(auto)]
+
 ghost use Rattle.std.specs.Prelude.{◌≡◌, length};
 ghost use Rattle.qsm.specs.model.State.{reset_module};
 ghost use Rattle.qsm.specs.declared.event.Event.TheVariants.{Reset, Hold};
@@ -30,7 +32,7 @@ use tool_plan::{Plan, Planned, SetPoints};
 
 // The module after a trace, the bytes read and written, and the refusal that stopped it, or 0.
 #[repr(C)]
-#[derive(Drop)]
+#[derive(Clone, Copy)]
 pub struct Played {
     pub state: Module,
     pub read: usize,

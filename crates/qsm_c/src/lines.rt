@@ -8,7 +8,7 @@ use tool_lines::line::Outcome;
 
 // The state after a call, and what it tells: the end of the trace, a line, a drop, a stop, or a refusal.
 #[repr(C)]
-#[derive(Drop)]
+#[derive(Clone, Copy)]
 pub struct LinesTold {
     pub state: Lines,
     pub number: u64,

@@ -1,4 +1,6 @@
 // The commands behind one name: `qsm show FILE`, or `qsm-show FILE` by a link. A program of Rattle has no exit status; a function that C calls has.
+#![tactic(auto)]
+
 use console::status::{Status, number};
 use libc::{STDERR_FILENO, STDOUT_FILENO};
 use shell::message::say_of;

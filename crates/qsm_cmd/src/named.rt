@@ -2,7 +2,7 @@
 use console::status::Status;
 
 // Whether there is a command of the name, and what it ended with.
-#[derive(Drop)]
+#[derive(Clone, Copy)]
 pub struct Ran {
     pub known: bool,
     pub status: Status,

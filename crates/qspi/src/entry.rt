@@ -6,7 +6,7 @@ use crate::fields::{bits_of, choose_bit, choose_word, cont, cpha, minus, pre_del
 use crate::registers::Registers;
 
 #[repr(C)]
-#[derive(Drop)]
+#[derive(Clone, Copy)]
 pub struct Entry {
     // What clock 1 took: the transmit word and the command.
     pub word: u16,

@@ -1,4 +1,6 @@
 // The queue side of the module: SPCR0 to SPCR3, SPSR, the queue RAM, and the queue clock by clock.
+#![tactic(auto)]
+
 mod claims;
 pub mod clocks;
 pub mod entry;
@@ -21,7 +23,7 @@ use crate::spsr::Spsr;
 
 // What is read and written: the registers, SPSR and the queue RAM; and where the queue stands: what comes next, and the entry under way.
 #[repr(C)]
-#[derive(Drop)]
+#[derive(Clone, Copy)]
 pub struct Qspi {
     pub registers: Registers,
     pub spsr: Spsr,
@@ -31,7 +33,7 @@ pub struct Qspi {
 }
 
 // The last input levels, the pin assignment and the directions: bit 0 MISO, 1 MOSI, 2 SCK, 3 to 6 PCS0 to PCS3, 7 TXD.
-#[derive(Drop)]
+#[derive(Clone, Copy)]
 pub struct Pins {
     pub levels: u8,
     pub pqspar: u8,

@@ -6,7 +6,7 @@ use crate::Qspi;
 use steps::{lower_byte, merge, upper_byte, word};
 
 #[repr(C)]
-#[derive(Drop)]
+#[derive(Clone, Copy)]
 pub struct Ram {
     pub receive: [u16; 16],
     pub transmit: [u16; 16],

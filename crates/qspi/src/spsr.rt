@@ -4,7 +4,7 @@ ghost use Rattle.steps.specs.Bits.{digit};
 ghost use Rattle.qspi.specs.model.Spsr.{either, without, spsr_byte, flags_seen, falls, falling, fallen};
 
 #[repr(C)]
-#[derive(Drop)]
+#[derive(Clone, Copy)]
 pub struct Flags {
     pub spif: bool,
     pub modf: bool,
@@ -13,7 +13,7 @@ pub struct Flags {
 
 // The flags that are set, those that a read touching byte 1F saw while they were set, and CPTQP.
 #[repr(C)]
-#[derive(Drop)]
+#[derive(Clone, Copy)]
 pub struct Spsr {
     pub flags: Flags,
     pub seen: Flags,

@@ -6,7 +6,7 @@ use qsm::state::Module;
 use sci::flags::Flags;
 
 // Frames taken and lost since the last reset, and whether a word waits in SCDR.
-#[derive(Drop)]
+#[derive(Clone, Copy)]
 pub struct Report {
     pub taken: u32,
     pub lost: u32,

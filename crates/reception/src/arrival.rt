@@ -6,7 +6,7 @@ use qsm::state::Module;
 use sci::flags::Flags;
 
 // A word that entered SCDR within an event, by its noise figure.
-#[derive(Drop)]
+#[derive(Clone, Copy)]
 pub enum Arrival {
     Came(u8),
     Nothing,

@@ -7,7 +7,7 @@ use crate::arrival::Arrival;
 use steps::of_u8::larger;
 
 // How many words there are, how many of them are noisy, and the worst figure.
-#[derive(Drop)]
+#[derive(Clone, Copy)]
 pub struct Tally {
     pub words: u64,
     pub noisy: u64,

@@ -5,7 +5,7 @@ ghost use Rattle.sci.specs.model.Account.{most, more, counting};
 use crate::receiver::Outcome;
 
 #[repr(C)]
-#[derive(Drop)]
+#[derive(Clone, Copy)]
 pub struct Account {
     // Frames taken, the lost ones with them.
     pub taken: u32,

@@ -4,7 +4,7 @@ ghost use Rattle.steps.specs.Bits.{digit};
 ghost use Rattle.sci.specs.model.Bits.{vote, odd, parity_bit};
 
 // What a vote over three samples gives: the bit, and how many of them disagreed with it.
-#[derive(Drop)]
+#[derive(Clone, Copy)]
 pub struct Voted {
     pub bit: bool,
     pub disagreed: u8,

@@ -8,7 +8,7 @@ use crate::bits::vote;
 use crate::control::bits_of;
 
 #[repr(C)]
-#[derive(Drop)]
+#[derive(Clone, Copy)]
 pub struct Framer {
     // A frame is being received; its start bit; else the data bits that are left, this one included, and none in the stop bit.
     pub framing: bool,
@@ -27,7 +27,7 @@ pub struct Framer {
 }
 
 // What a frame brings at its end: its word, its noise figure, and the stop bit.
-#[derive(Drop)]
+#[derive(Clone, Copy)]
 pub struct Frame {
     pub word: u16,
     pub noise: u8,

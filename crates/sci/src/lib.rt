@@ -1,5 +1,7 @@
 // The serial half (SCI): status flags and how they fall, prescaler, receiver, transmitter, and the accesses to SCCR0, SCCR1, SCSR and
 // SCDR. It knows nothing of the queue half. State goes in and comes back by value; every function answers every value of every field.
+#![tactic(auto)]
+
 mod accesses;
 pub mod account;
 mod adjustment;

@@ -12,7 +12,7 @@ use crate::status::Status;
 use crate::{control, framer};
 
 #[repr(C)]
-#[derive(Drop)]
+#[derive(Clone, Copy)]
 pub struct Receiver {
     pub framer: Framer,
     // SCDR as it is read, the noise figure of its word, and whether a frame has entered it since the idle count last got to its limit.
@@ -31,7 +31,7 @@ pub struct Receiver {
 
 // What a sample makes happen: a start bit begun or abandoned; a frame taken, which may be lost; one more sample of an idle line, and the
 // idle count at its limit.
-#[derive(Drop)]
+#[derive(Clone, Copy)]
 pub struct Outcome {
     pub begun: bool,
     pub abandoned: bool,
@@ -42,7 +42,7 @@ pub struct Outcome {
 }
 
 // The receiver and the status flags after a sample.
-#[derive(Drop)]
+#[derive(Clone, Copy)]
 pub struct Received {
     pub receiver: Receiver,
     pub status: Status,

@@ -14,7 +14,7 @@ use crate::status::Status;
 use crate::transmitter::Transmitter;
 
 #[repr(C)]
-#[derive(Drop)]
+#[derive(Clone, Copy)]
 pub struct Sci {
     // SCCR0, and SCCR1 without RWU, which the receiver keeps.
     pub sccr0: u16,

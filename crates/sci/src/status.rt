@@ -5,7 +5,7 @@ ghost use Rattle.sci.specs.model.Status.{has, raise, raise_if, fall, fall_if, ma
 use crate::flags::Flags;
 
 #[repr(C)]
-#[derive(Drop)]
+#[derive(Clone, Copy)]
 pub struct Status {
     pub flags: Flags,
     pub seen: Flags,

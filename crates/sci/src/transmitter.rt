@@ -10,7 +10,7 @@ use crate::flags::Flags;
 use crate::status::Status;
 
 #[repr(C)]
-#[derive(Drop)]
+#[derive(Clone, Copy)]
 pub struct Transmitter {
     // A preamble is queued.
     pub preamble: bool,
@@ -22,7 +22,7 @@ pub struct Transmitter {
 }
 
 // The transmitter and the status flags after a sample.
-#[derive(Drop)]
+#[derive(Clone, Copy)]
 pub struct Sent {
     pub transmitter: Transmitter,
     pub status: Status,

@@ -5,7 +5,7 @@ ghost use Rattle.shell.specs.Arguments.{none, flagged, waiting, valued, plain, u
 use crate::options::Kind;
 
 // What was seen so far. Places are numbers of arguments, and 0 where there is none.
-#[derive(Drop)]
+#[derive(Clone, Copy)]
 pub struct Seen {
     pub help: bool,
     pub version: bool,
@@ -24,7 +24,7 @@ pub struct Seen {
 }
 
 // Whether a command goes on, and why it doesn't.
-#[derive(Drop)]
+#[derive(Clone, Copy)]
 pub enum Verdict {
     Go,
     Help,

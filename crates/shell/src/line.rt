@@ -11,7 +11,7 @@ use files::version::print_version;
 use libc::{STDERR_FILENO, STDOUT_FILENO};
 
 // Whether the command goes on, or something was wrong, and its options and words.
-#[derive(Drop)]
+#[derive(Clone, Copy)]
 pub struct Given {
     pub go: bool,
     pub wrong: bool,

@@ -7,7 +7,7 @@ use files::words::is_option;
 
 // A word is none, as a file's name; -h or --help; --version; --, behind which no word is an option; an option that stands alone or one that a value
 // follows, by its number in the command's list; or an option that the command doesn't know.
-#[derive(Drop)]
+#[derive(Clone, Copy)]
 pub enum Kind {
     Plain,
     Help,

@@ -9,7 +9,7 @@ use files::words::join;
 
 // What is written: its descriptor, or a negative number where there is none; how long the name of the file is that is made first, or 0 where there is none;
 // and that of the file whose place it takes.
-#[derive(Drop)]
+#[derive(Clone, Copy)]
 pub struct Target {
     pub fd: i32,
     pub beside: usize,

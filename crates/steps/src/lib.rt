@@ -1,5 +1,7 @@
 // What both halves of the module need: bytes of a register word and the write of it by its byte lanes, one meaning of
 // 'so many times' (`specs/Iterate`, which has no code of its own), and the lesser and larger of two numbers, by their width.
+#![tactic(auto)]
+
 ghost use Rattle.std.specs.Prelude.{◌≡◌, cond, ◌-◌};
 ghost use Rattle.steps.specs.Bits.{upper_byte, lower_byte, word, merge};
 

@@ -4,7 +4,7 @@ ghost use Rattle.text.specs.Digits.{decimal_digit, hex_digit, decimal, hex_byte,
 ghost use Rattle.text.specs.Line.{empty, put, puts};
 
 // The bytes of a line, and how many of them it has.
-#[derive(Drop)]
+#[derive(Clone, Copy)]
 pub struct Line {
     pub bytes: [u8; 184],
     pub length: usize,

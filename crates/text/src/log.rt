@@ -16,7 +16,7 @@ const CLOCK_LOW: usize = CLOCK + 4;
 
 // An answer, or what is wrong: its first byte is neither 10 nor 11, or not that of the answers before it, its refusal is none that an answer has, a pin that
 // is not driven has a level, or the end of the log cuts it.
-#[derive(Drop)]
+#[derive(Clone, Copy)]
 pub enum Entry {
     Whole(Logged),
     NoAnswer,
@@ -27,7 +27,7 @@ pub enum Entry {
 }
 
 // The bytes of an answer in a log, whether the model can have given it or not.
-#[derive(Drop)]
+#[derive(Clone, Copy)]
 pub struct Logged {
     pub kind: u8,
     pub answer: Answer,

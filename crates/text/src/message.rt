@@ -8,7 +8,7 @@ use crate::line::Line;
 use trace::Stop;
 
 // What is wrong with an answer of a log or a record of a trace.
-#[derive(Drop)]
+#[derive(Clone, Copy)]
 pub enum Fault {
     NoAnswer,
     OtherKind,

@@ -7,7 +7,7 @@ use crate::line::Line;
 use qsm::map::{OwnWord, Place, QueueWord, SerialWord};
 
 // What of a register word is named.
-#[derive(Drop)]
+#[derive(Clone, Copy)]
 pub enum Part {
     Upper,
     Lower,

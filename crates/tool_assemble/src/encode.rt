@@ -7,7 +7,7 @@ use qsm::event::{Access, Event};
 use steps::{lower_byte, upper_byte};
 
 // The bytes of a record, with zeros behind them.
-#[derive(Drop)]
+#[derive(Clone, Copy)]
 pub struct Encoded {
     pub bytes: [u8; 8],
     pub length: usize,

@@ -10,7 +10,7 @@ use crate::texts::line_item;
 use qsm::event::Event;
 
 // What is wrong with a line.
-#[derive(Drop)]
+#[derive(Clone, Copy)]
 pub enum Fault {
     NotUnderstood,
     OtherName,
@@ -20,7 +20,7 @@ pub enum Fault {
 }
 
 // What a line says: a record by its kind and event; a text sent on RXD; nothing; or what is wrong, with the bytes left from there on.
-#[derive(Drop)]
+#[derive(Clone, Copy)]
 pub enum Item {
     Nothing,
     Record(u8, Event),

@@ -8,7 +8,7 @@ use crate::scan::{byte, is_blank};
 use text::line::Line;
 
 // Which offset has a name: none, one, or several.
-#[derive(Drop)]
+#[derive(Clone, Copy)]
 pub enum Offset {
     Nowhere,
     At(u16),

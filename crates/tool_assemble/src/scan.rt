@@ -5,14 +5,14 @@ ghost use Rattle.tool_assemble.specs.Scan.{is_blank, blanks, nothing, some, numb
 use crate::figures::{digits, limit};
 
 // What a text begins with: a number, and the bytes of it.
-#[derive(Drop)]
+#[derive(Clone, Copy)]
 pub struct Figures {
     pub value: u64,
     pub length: usize,
 }
 
 // What an element of a pattern takes of a text: whether it is there, its bytes, and its number if it is one.
-#[derive(Drop)]
+#[derive(Clone, Copy)]
 pub struct Taken {
     pub ok: bool,
     pub length: usize,
@@ -21,7 +21,7 @@ pub struct Taken {
 }
 
 // The last three numbers that a pattern found.
-#[derive(Drop)]
+#[derive(Clone, Copy)]
 pub struct Numbers {
     pub first: u64,
     pub second: u64,
@@ -29,7 +29,7 @@ pub struct Numbers {
 }
 
 // Whether a text is as the pattern says, its numbers, and the bytes left behind the pattern, or from where it is no more so.
-#[derive(Drop)]
+#[derive(Clone, Copy)]
 pub struct Found {
     pub ok: bool,
     pub left: usize,

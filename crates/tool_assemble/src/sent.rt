@@ -7,7 +7,7 @@ use crate::scan::byte;
 use qsm::event::Event;
 
 // A text sent on RXD: the bytes of its line from its start on, the rate, the system clock in hertz, and the levels of the other pins.
-#[derive(Drop)]
+#[derive(Clone, Copy)]
 pub struct Sent {
     pub start: usize,
     pub baud: u32,
@@ -16,14 +16,14 @@ pub struct Sent {
 }
 
 // A character of a quoted text: the bytes that it takes, 0 if there is none, and what it stands for.
-#[derive(Drop)]
+#[derive(Clone, Copy)]
 pub struct Character {
     pub length: usize,
     pub byte: u8,
 }
 
 // A record by its kind and event.
-#[derive(Drop)]
+#[derive(Clone, Copy)]
 pub struct Bit {
     pub kind: u8,
     pub event: Event,

@@ -1,4 +1,6 @@
 // Two logs of answers, compared: which answers differ and in which fields, and what the longer log has beyond the common end.
+#![tactic(auto)]
+
 ghost use Rattle.std.specs.Prelude.{◌≡◌, cond, ◌++◌, ◌≤◌, ◌<◌, ◌*◌, ◌/◌, length, take, drop};
 ghost use Rattle.answers.specs.Answer.{fields, stride};
 ghost use Rattle.tool_compare.specs.Answer.{same, sum_of};
@@ -169,7 +171,7 @@ pub fn compare<'a>(
 
 // What a comparison gives beside its list, in numbers: the stretch is `length` bytes from `start` on, of the second log or of the first.
 #[repr(C)]
-#[derive(Drop)]
+#[derive(Clone, Copy)]
 pub struct Compared {
     pub count: u64,
     pub refusal: u8,

@@ -9,7 +9,7 @@ use crate::records::{Edition, Parsed, Record};
 use crate::{Given, records, rules};
 
 // Records that are in order, by the last edition added and how many they are; or the refusal of the buffer.
-#[derive(Drop)]
+#[derive(Clone, Copy)]
 pub enum Held {
     Holds(u16, usize),
     Refused(u8),

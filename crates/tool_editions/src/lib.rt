@@ -1,4 +1,6 @@
 // Register settings by edition, kept as records in a lent buffer with a used length: added, withdrawn and asked for.
+#![tactic(auto)]
+
 ghost use Rattle.std.specs.Prelude.{◌≡◌, ◌++◌, ◌≤◌, length, drop};
 ghost use Rattle.tool_editions.specs.Records.{size_of, bytes_of};
 ghost use Rattle.tool_editions.specs.Editions.{changed, asked, add, withdraw, get, newest, Changes};
@@ -14,7 +16,7 @@ use records::{Edition, Record};
 
 // The used length after a change, and the refusal's number or 0.
 #[repr(C)]
-#[derive(Drop)]
+#[derive(Clone, Copy)]
 pub struct Changed {
     pub used: usize,
     pub refusal: u8,
@@ -22,7 +24,7 @@ pub struct Changed {
 
 // The edition asked for and 0, or an edition of zeros and the refusal's number.
 #[repr(C)]
-#[derive(Drop)]
+#[derive(Clone, Copy)]
 pub struct Given {
     pub edition: Edition,
     pub refusal: u8,

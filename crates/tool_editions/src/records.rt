@@ -4,7 +4,7 @@ ghost use Rattle.tool_editions.specs.Records.{number_of, size_of, edition_at, pa
 
 // The settings of an edition, by register.
 #[repr(C)]
-#[derive(Drop)]
+#[derive(Clone, Copy)]
 pub struct Edition {
     pub number: u16,
     pub sccr0: u16,
@@ -13,14 +13,14 @@ pub struct Edition {
     pub spcr1: u16,
 }
 
-#[derive(Drop)]
+#[derive(Clone, Copy)]
 pub enum Record {
     Added(Edition),
     Withdrawn(u16),
 }
 
 // What stands at the start of a rest of a buffer.
-#[derive(Drop)]
+#[derive(Clone, Copy)]
 pub enum Parsed {
     Whole(Record),
     Unknown,

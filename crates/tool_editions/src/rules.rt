@@ -7,7 +7,7 @@ use qsm::event::{Access, Event};
 use qsm::state::Module;
 
 // Settings being written to a module: what it has become, and whether a write so far was refused 3.
-#[derive(Drop)]
+#[derive(Clone, Copy)]
 pub struct Tried {
     pub state: Module,
     pub refused: bool,

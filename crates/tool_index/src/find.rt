@@ -9,7 +9,7 @@ use trace::Parsed;
 
 // Where a record starts, how many resets came before it, how many records were walked over, and the refusal, 2 or 0.
 #[repr(C)]
-#[derive(Drop)]
+#[derive(Clone, Copy)]
 pub struct Found {
     pub place: u64,
     pub resets: u64,

@@ -15,7 +15,7 @@ pub const MOST: usize = 4096;
 // The marks of a trace and, where they were refused, those that it needs; its records; where they end, and how many resets are among them; what stopped
 // them, 5, 6 or 0; and the refusal, 7 or 0.
 #[repr(C)]
-#[derive(Drop)]
+#[derive(Clone, Copy)]
 pub struct Indexed {
     pub marks: usize,
     pub records: u64,

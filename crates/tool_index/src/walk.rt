@@ -8,7 +8,7 @@ use trace::Parsed;
 use trace::refusals::refusal_of;
 
 // Where a record starts: its number, from 0, its place in bytes, and how many resets came before it.
-#[derive(Drop)]
+#[derive(Clone, Copy)]
 pub struct Position {
     pub number: u64,
     pub place: u64,
@@ -16,7 +16,7 @@ pub struct Position {
 }
 
 // Where a walk stands, and how many bytes it read.
-#[derive(Drop)]
+#[derive(Clone, Copy)]
 pub struct Walked {
     pub at: Position,
     pub read: usize,

@@ -1,4 +1,6 @@
 // A vendor's log judged: accepted exactly if it is what the model gives, else the first wrong answer and its first wrong field.
+#![tactic(auto)]
+
 ghost use Rattle.std.specs.Prelude.{◌≡◌, cond, not, ◌&&◌, ◌≤◌, ltb, length};
 ghost use Rattle.trace.specs.Trace.{answer_length};
 ghost use Rattle.tool_judge.specs.Verdict.{alike, verdict, numbered, before};
@@ -14,14 +16,14 @@ use trace::refusals::refusal_of;
 use trace::{ANSWER_LENGTH, Parsed};
 
 // A log that is right, or the number of its first wrong answer and the first field of it that is.
-#[derive(Drop)]
+#[derive(Clone, Copy)]
 pub enum Verdict {
     Accepted,
     Wrong(usize, Field),
 }
 
 // The verdict, and the refusal that stopped the trace (5, 6 or 10) or 0.
-#[derive(Drop)]
+#[derive(Clone, Copy)]
 pub struct Judged {
     pub verdict: Verdict,
     pub stop: u8,
@@ -29,7 +31,7 @@ pub struct Judged {
 
 // A part of a trace that was played beside a part of a log: the module, the records answered, the bytes of both that are done with, the
 // verdict on these answers, and the refusal that stopped the trace or 0; 7 where the part of the log has no further answer.
-#[derive(Drop)]
+#[derive(Clone, Copy)]
 pub struct Walked {
     pub state: Module,
     pub records: usize,
@@ -40,7 +42,7 @@ pub struct Walked {
 }
 
 // A walk, and the bytes of the last of the model's answers, or zeros where it gave none.
-#[derive(Drop)]
+#[derive(Clone, Copy)]
 pub struct Ran {
     pub walked: Walked,
     pub ours: [u8; ANSWER_LENGTH],

@@ -9,7 +9,7 @@ use answers::field_number;
 // The number of the first wrong answer and of its first wrong field, both 0 where the log is accepted; and the refusal that stopped the trace
 // or 0.
 #[repr(C)]
-#[derive(Drop)]
+#[derive(Clone, Copy)]
 pub struct Judgement {
     pub number: u64,
     pub field: u8,

@@ -1,4 +1,6 @@
 // Document 02, L8: a trace is played with polling put in, and delivered words are gathered into lines.
+#![tactic(auto)]
+
 ghost use Rattle.std.specs.Prelude.{◌≡◌, ◌<◌, ◌≤◌, ◌++◌, length, take, drop};
 ghost use Rattle.tool_lines.specs.Gather.{most};
 ghost use Rattle.tool_lines.specs.Call.{started, go_on, called, handed_in, Calls};
@@ -17,7 +19,7 @@ use qsm::state::Module;
 // Where a replay stands: the place in the trace, the clocks left of the hold under way, the clocks since the last poll, the hold's levels, the line
 // being gathered, the noise figures, and the module.
 #[repr(C)]
-#[derive(Drop)]
+#[derive(Clone, Copy)]
 pub struct Lines {
     pub at: usize,
     pub left: u32,
@@ -29,7 +31,7 @@ pub struct Lines {
     pub device: Module,
 }
 
-#[derive(Drop)]
+#[derive(Clone, Copy)]
 pub struct Turned {
     pub state: Lines,
     pub outcome: Outcome,

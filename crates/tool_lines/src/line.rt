@@ -5,7 +5,7 @@ ghost use Rattle.tool_lines.specs.declared.line.Outcome.TheVariants as told;
 
 // The line being gathered: its number, from 0 over all that ended, the first cause to drop it, or 0, and its characters: the first `count`.
 #[repr(C)]
-#[derive(Drop)]
+#[derive(Clone, Copy)]
 pub struct Line {
     pub number: u64,
     pub cause: u8,
@@ -15,7 +15,7 @@ pub struct Line {
 
 // What there is to tell: nothing; a line's number and how many characters it has; a dropped line's number and cause; the refusal that stopped
 // the replay; the end of the trace; the refusal of the call.
-#[derive(Drop)]
+#[derive(Clone, Copy)]
 pub enum Outcome {
     Nothing,
     Handed(u64, u8),
@@ -25,7 +25,7 @@ pub enum Outcome {
     Refused(u8),
 }
 
-#[derive(Drop)]
+#[derive(Clone, Copy)]
 pub struct Gathered {
     pub line: Line,
     pub outcome: Outcome,

@@ -7,7 +7,7 @@ use steps::of_u8::larger;
 
 // The total of some figures, and the worst of them.
 #[repr(C)]
-#[derive(Drop)]
+#[derive(Clone, Copy)]
 pub struct Noise {
     pub total: u64,
     pub worst: u8,
@@ -15,7 +15,7 @@ pub struct Noise {
 
 // Of the line being gathered, and of the line that ended last.
 #[repr(C)]
-#[derive(Drop)]
+#[derive(Clone, Copy)]
 pub struct Noises {
     pub line: Noise,
     pub last: Noise,

@@ -6,7 +6,7 @@ use qsm::event::{Access, Event};
 use qsm::state::Module;
 
 // The module after a poll, the status that it showed, and the word that it read, 0 where it read none.
-#[derive(Drop)]
+#[derive(Clone, Copy)]
 pub struct Polled {
     pub state: Module,
     pub status: u32,

@@ -1,5 +1,7 @@
 // Set-points packed into the queue: a plan of entries, pointers and registers with the clock of its last edge; a checker that says what a
 // plan is, and a planner that proposes the quickest.
+#![tactic(auto)]
+
 ghost use Rattle.std.specs.Prelude.{◌≡◌, ◌^◌, ◌≤◌, ◌<◌};
 ghost use Rattle.tool_plan.specs.Check.{each, in_range, ranged, proper, carries, carried, pointed, allowed, clock_before, last_edge, accepts};
 ghost use Rattle.qspi.specs.claims.Run.{last_clock_of, length_of};
@@ -13,7 +15,7 @@ use qspi::registers::spcr0_unmodelled;
 
 // Up to sixteen set-points in order, of which the first `count` are meant: chip select, bits, and the word.
 #[repr(C)]
-#[derive(Drop)]
+#[derive(Clone, Copy)]
 pub struct SetPoints {
     pub count: u8,
     pub selects: [u8; 16],
@@ -24,7 +26,7 @@ pub struct SetPoints {
 // A plan: its entries from the first pointer on, of which the first `count` are meant, by command byte and transmit word; the first and the last
 // pointer; SPCR0, SPCR1 and the rest of SPCR2; and the clock of the last edge.
 #[repr(C)]
-#[derive(Drop)]
+#[derive(Clone, Copy)]
 pub struct Plan {
     pub clock: u64,
     pub spcr0: u16,
@@ -39,7 +41,7 @@ pub struct Plan {
 
 // What the planner answers: a plan, or refusal 11 and a plan of zeros.
 #[repr(C)]
-#[derive(Drop)]
+#[derive(Clone, Copy)]
 pub struct Planned {
     pub plan: Plan,
     pub refusal: u8,

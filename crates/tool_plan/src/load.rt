@@ -6,7 +6,7 @@ use crate::Plan;
 
 // A supervisor's write, for the host to make: width in bytes, offset from the module's base, and value. Width 0 is none.
 #[repr(C)]
-#[derive(Drop)]
+#[derive(Clone, Copy)]
 pub struct HostWrite {
     pub value: u32,
     pub offset: u16,

@@ -1,10 +1,12 @@
 // How far off a sender may be, and how long a word may wait in SCDR, for given settings. claims_text has the theorems that these figures are of.
+#![tactic(auto)]
+
 ghost use Rattle.std.specs.Prelude.{Bool, true, false, cond, ◌≡◌, ◌+◌, ◌-◌, ◌*◌, ◌≤◌, eqb, ltb, leb};
 ghost use Rattle.tool_rates.specs.Rates.{sample_of, apart, deadline_of, own_bit, not_early, not_late, difference, hundredths, tolerance_of};
 
 // Whether a text at a rate is heard word by word; whether its bits are shorter than the receiver's; and by how many hundredths of a percent they
 // are off, rounded down.
-#[derive(Drop)]
+#[derive(Clone, Copy)]
 pub struct Rate {
     pub heard: bool,
     pub short: bool,

@@ -1,4 +1,6 @@
 // A trace drawn: the changes of pins, inputs and request, each at its own clock, in order, for a file that wave viewers read.
+#![tactic(auto)]
+
 ghost use Rattle.std.specs.Prelude.{◌≡◌};
 ghost use Rattle.tool_wave.specs.Turn.{begun, turn};
 
@@ -12,7 +14,7 @@ use probe::Probe;
 use view::View;
 
 // Where a drawing stands: the place in the trace, the clocks left of the hold under way, and the module with its lines.
-#[derive(Drop)]
+#[derive(Clone, Copy)]
 pub struct Waves {
     pub at: usize,
     pub left: u32,
@@ -20,7 +22,7 @@ pub struct Waves {
 }
 
 // What changed at a clock since the start of the trace: what is drawn before and after it, and the refusal of an access, or 0.
-#[derive(Drop)]
+#[derive(Clone, Copy)]
 pub struct Step {
     pub clock: u64,
     pub before: View,
@@ -29,7 +31,7 @@ pub struct Step {
 }
 
 // What there is to tell: nothing; a change; the refusal that stopped the trace; its end.
-#[derive(Drop)]
+#[derive(Clone, Copy)]
 pub enum Outcome {
     Nothing,
     Drawn(Step),
@@ -37,7 +39,7 @@ pub enum Outcome {
     Ended,
 }
 
-#[derive(Drop)]
+#[derive(Clone, Copy)]
 pub struct Turned {
     pub state: Waves,
     pub outcome: Outcome,

@@ -12,7 +12,7 @@ use until_change::{number, room, shown, until_change, wires, within};
 
 // The clocks since the start of the trace, which a reset leaves; whether a record has been played, and a hold; RXD as the last hold gave it;
 // what the clock of a last edge keeps; and the module.
-#[derive(Drop)]
+#[derive(Clone, Copy)]
 pub struct Probe {
     pub clock: u64,
     pub known: bool,
@@ -23,7 +23,7 @@ pub struct Probe {
 }
 
 // What an access leaves, and its refusal or 0.
-#[derive(Drop)]
+#[derive(Clone, Copy)]
 pub struct Accessed {
     pub probe: Probe,
     pub refusal: u8,

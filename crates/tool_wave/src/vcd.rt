@@ -11,7 +11,7 @@ use text::line::Line;
 const BILLION: u64 = 1000000000;
 
 // Up to eight lines, bit 0 the first: whether they are known, which are driven, and their levels.
-#[derive(Drop)]
+#[derive(Clone, Copy)]
 pub struct Bits {
     pub known: bool,
     pub mask: u8,

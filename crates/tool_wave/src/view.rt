@@ -5,7 +5,7 @@ ghost use Rattle.tool_wave.specs.View.{none, turned_sck, kept_edge, seven, over,
 use until_change::Look;
 
 // Of a queue's last edge: the pins to the end of its clock.
-#[derive(Drop)]
+#[derive(Clone, Copy)]
 pub struct Kept {
     pub on: bool,
     pub levels: u8,
@@ -13,7 +13,7 @@ pub struct Kept {
 }
 
 // `known` after the first record, `given` after the first hold.
-#[derive(Drop)]
+#[derive(Clone, Copy)]
 pub struct View {
     pub known: bool,
     pub given: bool,

@@ -1,4 +1,6 @@
 // The trace: records in, answers out, and refusals 5 to 7 and 10.
+#![tactic(auto)]
+
 ghost use Rattle.std.specs.Prelude.{◌≡◌, ◌++◌, ◌≤◌, length, drop};
 ghost use Rattle.trace.specs.Trace.{parsed, answer_length, answer_bytes};
 ghost use Rattle.trace.specs.Play.{stop_number, refusal_of, play, Plays};
@@ -11,7 +13,7 @@ mod fields;
 pub mod refusals;
 
 // What stands at the start of a rest of a trace: an event and the position past its record, or why there is none.
-#[derive(Drop)]
+#[derive(Clone, Copy)]
 pub enum Parsed {
     Record(Event, usize),
     Unknown,
@@ -19,7 +21,7 @@ pub enum Parsed {
 }
 
 // Why a trace went no further.
-#[derive(Drop)]
+#[derive(Clone, Copy)]
 pub enum Stop {
     End,
     UnknownKind,
@@ -29,7 +31,7 @@ pub enum Stop {
 }
 
 // The module after a trace, the bytes read and written, and why it stopped.
-#[derive(Drop)]
+#[derive(Clone, Copy)]
 pub struct Played {
     pub state: Module,
     pub read: usize,

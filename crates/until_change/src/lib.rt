@@ -1,4 +1,6 @@
 // How long an answer stays as it is: the clocks until the pins or the request show something else, while pins and RXD keep their levels.
+#![tactic(auto)]
+
 ghost use Rattle.std.specs.Prelude.{◌≡◌, true, ◌+◌, ◌-◌, ◌≤◌, min};
 ghost use Rattle.qsm.specs.model.Event.{clock_limit, held, pins_of};
 ghost use Rattle.until_change.specs.Change.{look, same_look, number, until_change};
@@ -17,7 +19,7 @@ use steps::of_u32::{larger, least};
 const LONGEST: u32 = 4294967295;
 
 // What an answer shows beside refusal and value.
-#[derive(Drop)]
+#[derive(Clone, Copy)]
 pub struct Look {
     pub levels: u8,
     pub mask: u8,
@@ -26,7 +28,7 @@ pub struct Look {
 }
 
 // The clocks after which an answer shows something else, or none: it never will.
-#[derive(Drop)]
+#[derive(Clone, Copy)]
 pub enum Change {
     After(u64),
     Nothing,
