@@ -1,0 +1,4 @@
+use Rattle.qspi.proofs.Qspi.spcr1_guarded.Goals as goal
+
+pub returns : goal.returns
+returns c = rw (c.merge.ensures, c.spe.ensures)

@@ -1,0 +1,4 @@
+use Rattle.qspi.proofs.falls.change_by.Goals as goal
+
+pub returns : goal.returns
+returns c = rw (c.choose.ensures, c.one_less.ensures, c.changes.ensures)

@@ -1,0 +1,8 @@
+use native.Mathlib.Omega.{arith}
+use Rattle.qspi.proofs.falls.reads_by.Goals as goal
+
+pub returns-then-cpha : goal.returns-then-cpha
+returns-then-cpha c = rw c.if-cpha.true
+
+pub returns-else-cpha : goal.returns-else-cpha
+returns-else-cpha c = rw c.if-cpha.false (omega arith)
