@@ -1,6 +1,5 @@
 use Prim.Native.Nat.{◌+◌, ◌-◌, ◌<◌, ◌≤◌}
 use mathlib.Core.Path.{◌≡◌, refl, ◌∙◌}
-use mathlib.Core.Logic.{⊎_elim}
 use native.Mathlib.Omega.{arith}
 use Rattle.steps.specs.Iterate.{iterate}
 use Rattle.sci.specs.model.Serial.{clocked}
@@ -8,30 +7,19 @@ use Rattle.sci.specs.quick.Quiet.{quiet}
 use Rattle.sci.proofs.Quiet.{skips, turn, restarts}
 use Rattle.sci.proofs.Rest.{shortened_less, shortens}
 use Rattle.sci.proofs.serial.Sci.clocks.Goals as goal
+use Rattle.sci.proofs.serial.Sci.clocks.Goals.{then-first-left, else-first-left}
 
 -- The invariant: what is left of the n clocks brings the state to where all n bring the first one, and k of them are quiet.
 
-pub quiet-k-requires : goal.quiet-k-requires
-quiet-k-requires c = tt
-
 pub loop-k-init : goal.loop-k-init
 loop-k-init c = (omega arith, (c.quiet-k.ensures, (omega arith, refl)))
-
-pub sample-s-requires : goal.sample-s-requires
-sample-s-requires c = tt
-
-pub shortened-left-requires : goal.shortened-left-requires
-shortened-left-requires c = tt
-
-pub quiet-k-requires-in-loop-k : goal.quiet-k-requires-in-loop-k
-quiet-k-requires-in-loop-k c = tt
 
 pub loop-k-smaller : goal.loop-k-smaller
 loop-k-smaller c =
     let x = c.args.x in
     let after = c.loop-k.left - (c.loop-k.k + 1) in
     let less = shortened_less after c.sample-s.result x in
-    ⊎_elim (λ w. omega (arith, w.2, w.1.ensures, less)) (λ w. omega (arith, w.1)) c.if-first-left.branch
+    elim c.if-first-left.branch [ then-first-left w ↦ omega (arith, w.left-is, w.shortened-left.ensures, less) | else-first-left w ↦ omega (arith, w.left-is) ]
 
 pub loop-k-preserved : goal.loop-k-preserved
 loop-k-preserved c =
@@ -44,18 +32,15 @@ loop-k-preserved c =
     let turned : iterate after (λ s. clocked s x) s ≡ iterate c.args.n (λ s. clocked s x) c.args.self =
     rw (c.sample-s.ensures, c.loop-k.invariant.1.0, turn c.loop-k.left c.loop-k.s x c.loop-k.invariant.1.1.0 (omega arith) below)
     c.loop-k.invariant.1.1.1 in (
-      ⊎_elim (λ w. omega (arith, w.2, w.1.ensures, less, c.loop-k.invariant.0)) (λ w. omega (arith, w.1, c.loop-k.invariant.0)) c.if-first-left.branch,
+      elim c.if-first-left.branch [ then-first-left w ↦ omega (arith, w.left-is, w.shortened-left.ensures, less, c.loop-k.invariant.0) | else-first-left w ↦ omega (arith, w.left-is, c.loop-k.invariant.0) ],
       (
         c.quiet-k-in-loop-k.ensures,
         (
           omega (arith, start),
-          ⊎_elim (λ w. rw (w.2, w.1.ensures) (shortens after s x start ∙ turned)) (λ w. rw w.1 turned) c.if-first-left.branch,
+          elim c.if-first-left.branch [ then-first-left w ↦ rw (w.left-is, w.shortened-left.ensures) (shortens after s x start ∙ turned) | else-first-left w ↦ rw w.left-is turned ],
         ),
       ),
     )
-
-pub skipped-requires : goal.skipped-requires
-skipped-requires c = tt
 
 pub returns : goal.returns
 returns c =
