@@ -1,4 +1,4 @@
 use Rattle.qspi.proofs.Qspi.begun.Goals as goal
 
 pub returns : goal.returns
-returns c = rw (c.started-self.ensures, c.entry_at-at.ensures.0)
+returns c = rw (c.started-self.ensures, c.entry_at-at.ensures.value)

@@ -1,5 +1,4 @@
 use mathlib.Core.Path.{refl, sym, ap, ◌∙◌}
-use mathlib.Core.Logic.{⊎_elim}
 use Prim.Native.Nat.{◌*◌}
 use native.Mathlib.Omega.{arith}
 use borrow.Author.Rules.{rules}
@@ -12,6 +11,7 @@ use Rattle.qspi.proofs.Bounds.{bits_small}
 use Rattle.qspi.proofs.Quiet.{all_quiet, turned, until_edge_holds, at_end_holds}
 use Rattle.qspi.proofs.Fallen.{none_fallen, fallen_until, both_tests, fallen_turn}
 use Rattle.qspi.proofs.Qspi.played.Goals as goal
+use Rattle.qspi.proofs.Qspi.played.Goals.{then-plays+else-loop-until-test, else-plays}
 
 -- The invariants: the clocks left, from where the queue stands, give what all of them give from the beginning; in the inner loop the entry
 -- after its edges up to j stands for the queue's.
@@ -83,25 +83,25 @@ returns-then-left-k c =
     let loop = c.loop-left in
     c.skipped.ensures
     ∙ all_quiet _ _ _ _ c.quiet-k.ensures c.if-left-k.true
-    ∙ ⊎_elim (λ w. rw (w.10, w.11, w.9.ensures) (w.7.inv.4 ∙ loop.invariant.1)) (λ w. rw (w.1, w.2) loop.invariant.1) c.if-plays.branch
+    ∙ elim c.if-plays.branch [ then-plays+else-loop-until-test w ↦ rw (w.q-is, w.left-is, w.edges_fallen-q.ensures) (w.loop-until.invariant.4 ∙ loop.invariant.1) | else-plays w ↦ rw (w.q-is, w.left-is) loop.invariant.1 ]
 
 pub overflow_add-left : goal.overflow_add-left
 overflow_add-left c =
     let loop = c.loop-left in
     let size = c.well_formed.1.0 in
-    ⊎_elim (λ w. omega (arith, size, w.11, w.7.inv.0, loop.invariant.0)) (λ w. omega (arith, size, w.2, loop.invariant.0)) c.if-plays.branch
+    elim c.if-plays.branch [ then-plays+else-loop-until-test w ↦ omega (arith, size, w.left-is, w.loop-until.invariant.0, loop.invariant.0) | else-plays w ↦ omega (arith, size, w.left-is, loop.invariant.0) ]
 
 pub loop-left-smaller : goal.loop-left-smaller
 loop-left-smaller c =
-    ⊎_elim (λ w. omega (arith, w.11, w.7.inv.0)) (λ w. omega (arith, w.2)) c.if-plays.branch
+    elim c.if-plays.branch [ then-plays+else-loop-until-test w ↦ omega (arith, w.left-is, w.loop-until.invariant.0) | else-plays w ↦ omega (arith, w.left-is) ]
 
 pub loop-left-preserved : goal.loop-left-preserved
 loop-left-preserved c =
     let loop = c.loop-left in (
-      ⊎_elim (λ w. omega (arith, w.11, w.7.inv.0, loop.invariant.0)) (λ w. omega (arith, w.2, loop.invariant.0)) c.if-plays.branch,
+      elim c.if-plays.branch [ then-plays+else-loop-until-test w ↦ omega (arith, w.left-is, w.loop-until.invariant.0, loop.invariant.0) | else-plays w ↦ omega (arith, w.left-is, loop.invariant.0) ],
       rw (c.clock-q.ensures, c.skipped-in-loop-left.ensures)
           (turned _ _ _ _ c.quiet-k.ensures c.if-left-k.false
-          ∙ ⊎_elim (λ w. rw (w.10, w.11, w.9.ensures) (w.7.inv.4 ∙ loop.invariant.1)) (λ w. rw (w.1, w.2) loop.invariant.1) c.if-plays.branch),
+          ∙ elim c.if-plays.branch [ then-plays+else-loop-until-test w ↦ rw (w.q-is, w.left-is, w.edges_fallen-q.ensures) (w.loop-until.invariant.4 ∙ loop.invariant.1) | else-plays w ↦ rw (w.q-is, w.left-is) loop.invariant.1 ]),
     )
 
 pub returns : goal.returns

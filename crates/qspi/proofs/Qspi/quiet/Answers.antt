@@ -3,4 +3,4 @@ use Rattle.qspi.proofs.Qspi.quiet.Goals as goal
 
 pub returns : goal.returns
 unfolding quiet
-returns c = rw (c.Quiet-if.ensures, c.fault_now.ensures, c.spe.ensures)
+returns c = rw (c.quiet_if.ensures, c.fault_now.ensures, c.spe.ensures)

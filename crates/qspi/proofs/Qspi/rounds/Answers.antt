@@ -31,7 +31,7 @@ rest-left-requires c =
 pub loop-left-smaller-then-left-q : goal.loop-left-smaller-then-left-q
 loop-left-smaller-then-left-q c =
     let k = c.stretch-k in
-    omega (arith, c.rest-left.ensures.1, k.ensures.0, k.ensures.1)
+    omega (arith, c.rest-left.ensures.less, k.ensures.0, k.ensures.1)
 
 pub loop-left-preserved-then-left-q : goal.loop-left-preserved-then-left-q
 loop-left-preserved-then-left-q c =
@@ -40,11 +40,11 @@ loop-left-preserved-then-left-q c =
     let start = c.args in
     let f : Qspi → Qspi = λ r. clock r start.pins in (
       search rules,
-      rw c.rest-left.ensures.0
+      rw c.rest-left.ensures.value
           (rested f c.same.result _ _ _ _ c.same.ensures
           (omega (arith, loop.invariant.0, k.ensures.0, k.ensures.1))
           (rw c.played-q.ensures
-          (further_back f loop.saved-left loop.left k.result loop.saved loop.q loop.invariant.0 k.ensures.1 loop.invariant.2))
+          (further_back f loop.saved_left loop.left k.result loop.saved loop.q loop.invariant.0 k.ensures.1 loop.invariant.2))
           ∙ rw c.played-q.ensures (stretched f loop.left k.result loop.q k.ensures.1 ∙ loop.invariant.1)),
       just_saved f c.rest-left.result c.played-q.result,
     )
@@ -62,7 +62,7 @@ loop-left-preserved c =
       omega (arith, loop.invariant.0),
       rw c.played-q.ensures (stretched f loop.left k.result loop.q k.ensures.1 ∙ loop.invariant.1),
       rw c.played-q.ensures
-          (further_back f loop.saved-left loop.left k.result loop.saved loop.q loop.invariant.0 k.ensures.1 loop.invariant.2),
+          (further_back f loop.saved_left loop.left k.result loop.saved loop.q loop.invariant.0 k.ensures.1 loop.invariant.2),
     )
 
 pub returns : goal.returns
