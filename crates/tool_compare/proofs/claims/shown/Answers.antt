@@ -5,8 +5,7 @@ use Rattle.tool_compare.specs.Compare.{differing, compared, compared_as}
 use Rattle.tool_compare.specs.Claims.{Example}
 use Rattle.tool_compare.proofs.OwnKind.{five_exactly, exchanged}
 use Rattle.tool_compare.proofs.ByKind.{tells_all, leaves_the_rest, in_pieces, other_piece, cut_piece, more_of_one, more_of_cut}
-use Rattle.tool_compare.proofs.claims.shown.Statement.{statement}
-use Rattle.tool_compare.proofs.claims.shown.Tie as tie
+use Rattle.tool_compare.proofs.claims.shown.Goals as goal
 
 example : Example
 unfolding weighed first_other differing compared compared_as
@@ -24,7 +23,7 @@ example =
       short = refl;
     }
 
-returns : tie.Need-returns
+pub returns : goal.returns
 returns c = (
   refl,
   record {
@@ -40,6 +39,3 @@ returns c = (
     example = example;
   },
 )
-
-pub shown-spec : {M : Type 1} → statement M
-shown-spec = tie.close (tie.spec returns)
