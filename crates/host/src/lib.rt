@@ -30,6 +30,7 @@ pub fn restart(_m: Module) -> Stepped
 }
 
 // Ruled out: a module that keeps a register; no answer to a reset.
+#[tactic(auto, unfolding(qsm::specs::model::Event::step, qsm::specs::model::Event::does))]
 pub fn reset(m: &mut Module) -> Answer
     ensures { Applied m.old Reset m.new result }
 {
@@ -40,6 +41,7 @@ pub fn reset(m: &mut Module) -> Answer
 }
 
 // Ruled out: the clocks of the hold before; the module from before the hold's clocks.
+#[tactic(auto, unfolding(qsm::specs::model::Event::step, qsm::specs::model::Event::does))]
 pub fn hold(m: &mut Module, pins: u8, rxd: bool, clocks: u32) -> Answer
     ensures { Applied m.old (Hold pins rxd clocks) m.new result }
 {
@@ -50,6 +52,7 @@ pub fn hold(m: &mut Module, pins: u8, rxd: bool, clocks: u32) -> Answer
 }
 
 // Ruled out: a read that leaves a flag which reading clears; one that is always a supervisor's.
+#[tactic(auto, unfolding(qsm::specs::model::Event::step, qsm::specs::model::Event::does))]
 pub fn read(m: &mut Module, supervisor: bool, width: u8, offset: u16) -> Answer
     ensures { Applied m.old (read_event supervisor width offset) m.new result }
 {
@@ -60,6 +63,7 @@ pub fn read(m: &mut Module, supervisor: bool, width: u8, offset: u16) -> Answer
 }
 
 // Ruled out: a write that is answered and not stored; a refused write that leaves its first half.
+#[tactic(auto, unfolding(qsm::specs::model::Event::step, qsm::specs::model::Event::does))]
 pub fn write(m: &mut Module, supervisor: bool, width: u8, offset: u16, value: u32) -> Answer
     ensures { Applied m.old (write_event supervisor width offset value) m.new result }
 {

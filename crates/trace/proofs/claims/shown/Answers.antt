@@ -1,10 +1,9 @@
 use mathlib.Core.Path.{refl}
-use Rattle.trace.proofs.claims.shown.Statement.{statement}
-use Rattle.trace.proofs.claims.shown.Tie as tie
 use Rattle.trace.proofs.Laws.{known_and_whole, bytes_each, answers_fit, records_read, read_to_the_end, earlier_stand, resumes, in_parts, streams}
 use Rattle.trace.proofs.Records.{state_left}
+use Rattle.trace.proofs.claims.shown.Goals as goal
 
-returns : tie.Need-returns
+pub returns : goal.returns
 returns c = (
   refl,
   record {
@@ -20,6 +19,3 @@ returns c = (
     state_left = state_left;
   },
 )
-
-pub shown-spec : {M : Type 1} → statement M
-shown-spec = tie.close (tie.spec returns)
