@@ -1,6 +1,4 @@
 use mathlib.Core.Path.{refl}
-use Rattle.claims_histories.proofs.demand2.Statement.{statement}
-use Rattle.claims_histories.proofs.demand2.Tie as tie
 use Rattle.claims_histories.specs.Demand2.{Demand2}
 use Rattle.claims_histories.proofs.Sentence.{sentence}
 use Rattle.claims_histories.proofs.SentenceMet.{can_arrive}
@@ -11,6 +9,7 @@ use Rattle.claims_histories.proofs.Pin.{pin_shows}
 use Rattle.claims_histories.proofs.Sent.{past, past', one, other}
 use Rattle.claims_histories.proofs.SentOne.{one_sends, one_matched}
 use Rattle.claims_histories.proofs.SentNext.{all_sent, all_read}
+use Rattle.claims_histories.proofs.demand2.Goals as goal
 
 demand2 : Demand2
 demand2 =
@@ -25,8 +24,5 @@ demand2 =
       met = (past, past', one, other, one_sends, one_matched, all_sent, all_read);
     }
 
-returns : tie.Need-returns
+pub returns : goal.returns
 returns c = (refl, sentence, can_arrive, demand2)
-
-pub demand2-spec : {M : Type 1} → statement M
-demand2-spec = tie.close (tie.spec returns)
