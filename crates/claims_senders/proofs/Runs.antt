@@ -103,7 +103,7 @@ run {n} {x} {f} s q (suc k) v w t t' a b c ys i m some h e l =
     (subst (Inside n x (k + w) (taken n x (k + w) (poured n x s (q - (suc (k + w) + 15) / 16)))) (sym r)
     (fixed_on i' (omega arith) (a && b && c))) in
     let r : Ran n x k (suc t) t' x a b g ys w (poured n x s (q - (w + 15) / 16)) =
-    run s q k (k + w) w (suc t) t' x a b ys j refl some (omega arith) (omega arith) (λ z. and_left x a (and_left (x && a) b z)) in
+    run {n = n} {x = x} {f = g} s q k (k + w) w (suc t) t' x a b ys j refl some (omega arith) (omega arith) (λ z. and_left x a (and_left (x && a) b z)) in
     record {
       to = r.to;
       inside = r.inside;

@@ -8,7 +8,7 @@ use lib.ListN.{replicate}
 use Rattle.sci.specs.model.Framer.{searching, framed}
 use Rattle.sci.specs.declared.framer.Framer.{Framer}
 use Rattle.claims_senders.specs.Heard.{ended_in}
-use Rattle.claims_senders.proofs.Inside.{in_start, Inside, early, late, not_last}
+use Rattle.claims_senders.proofs.Inside.{in_start, Inside, early, not_last}
 use Rattle.claims_senders.proofs.Runs.{poured, last1, last2, last3, Ran, run, goes, Fell, anew, onward, falls, begins_ten, cut}
 
 -- A change in bounds, k bits and u samples after a fall.
