@@ -1,10 +1,9 @@
 -- The first of a row of numbers that is so: those that are not are passed, and one that is ends it. Assumes nothing.
 use mathlib.Core.Bool.{Bool, true, false}
-use mathlib.Core.Path.{◌≡◌, refl, sym, ap, ◌∙◌}
+use mathlib.Core.Path.{◌≡◌, sym, ap, ◌∙◌}
 use Prim.Native.Nat.{ℕ, zero, suc, ◌+◌, ◌<◌}
 use native.Mathlib.Omega.{arith}
 use Rattle.until_change.specs.Change.{first_of}
-use Rattle.until_change.specs.declared.Change.{Change}
 use Rattle.until_change.specs.declared.Change.TheVariants.{After, Nothing}
 
 pub found : (p : ℕ → Bool) (r n : ℕ) → p n ≡ true → first_of p (suc r) n ≡ After n

@@ -1,12 +1,12 @@
 -- None: no hold at the same levels, after any others like it, shows something else. Assumes nothing.
-use mathlib.Core.Bool.{Bool, true, false, cond, not, ◌&&◌, ◌||◌, false≢true}
+use mathlib.Core.Bool.{Bool, true, false, cond, not, ◌||◌, false≢true}
 use mathlib.Core.List.{List, [], ◌∷◌}
 use mathlib.Core.Path.{◌≡◌, refl, sym, ap, ◌∙◌}
-use Prim.Native.Nat.{ℕ, zero, suc, ◌+◌, ◌-◌, ◌<◌, ◌≤◌}
+use Prim.Native.Nat.{ℕ, zero, suc, ◌+◌, ◌-◌}
 use native.Mathlib.Omega.{arith}
 use borrow.Author.Tests.{eq-eqb, not-false}
 use Rattle.steps.specs.Iterate.{iterate}
-use Rattle.qsm.specs.model.Event.{answer_of, answered, clock_limit, passes, clocks, held, step}
+use Rattle.qsm.specs.model.Event.{answer_of, clock_limit, passes, clocks, step}
 use Rattle.qsm.specs.declared.state.Module.{Module}
 use Rattle.qsm.specs.declared.event.Event.TheVariants.{Hold}
 use Rattle.qsm.specs.declared.event.Done.{Done}

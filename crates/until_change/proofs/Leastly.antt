@@ -3,7 +3,7 @@ use mathlib.Core.Bool.{Bool, true, false, cond, false≢true}
 use mathlib.Core.Path.{◌≡◌, refl, sym, ap, ◌∙◌}
 use Prim.Native.Nat.{ℕ, zero, suc, ◌+◌, ◌-◌, ◌<◌, ◌≤◌}
 use native.Mathlib.Omega.{arith}
-use Rattle.qsm.specs.model.Event.{holds, does, step, passes, clock_limit, clocks, answer_of}
+use Rattle.qsm.specs.model.Event.{holds, does, step, clock_limit, answer_of}
 use Rattle.qsm.proofs.Limit.{is_room}
 use Rattle.until_change.specs.Change.{number, first_of, until_change, differs}
 use Rattle.until_change.specs.Claims.{OfAHold, Least}

@@ -1,12 +1,12 @@
 -- After the first of its steady clocks a module shows the same after each. Assumes nothing.
 use mathlib.Core.Bool.{Bool, true, false, cond, not, ◌&&◌, ◌||◌}
 use mathlib.Core.Path.{◌≡◌, refl, sym, ap, ◌∙◌}
-use Prim.Native.Nat.{ℕ, zero, suc, ◌+◌, ◌-◌, ◌*◌, ◌≤◌, max, min}
+use Prim.Native.Nat.{ℕ, zero, suc, ◌+◌, ◌-◌, ◌*◌, ◌≤◌, min}
 use native.Mathlib.Omega.{arith}
-use lib.Dec.{eqb, leb, ltb}
+use lib.Dec.{eqb, leb}
 use borrow.Author.Tests.{eqb-true, lt-ltb}
 use Rattle.steps.specs.Iterate.{iterate}
-use Rattle.steps.proofs.Iterate.{iterate_add, iterate_fixed}
+use Rattle.steps.proofs.Iterate.{iterate_add}
 use Rattle.sci.specs.model.Control.{SCBR}
 use Rattle.sci.specs.model.Serial.{active, due, prescaled, clocked}
 use Rattle.sci.specs.quick.Quiet.{quiet, with_count, skipped, rests}

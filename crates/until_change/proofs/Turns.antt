@@ -1,7 +1,7 @@
 -- A turn of the search: k steady clocks, from a module that has come so far that `left` of all clocks are left. Assumes nothing.
 use mathlib.Core.Bool.{Bool, true, false, not}
 use mathlib.Core.Path.{◌≡◌, refl, sym, ap, ◌∙◌}
-use Prim.Native.Nat.{ℕ, zero, suc, ◌+◌, ◌-◌, ◌<◌, ◌≤◌, min, max}
+use Prim.Native.Nat.{ℕ, zero, suc, ◌+◌, ◌-◌, ◌<◌, ◌≤◌, min}
 use native.Mathlib.Omega.{arith}
 use Rattle.steps.specs.Iterate.{iterate}
 use Rattle.qsm.specs.model.Event.{clock_limit, clocks, held}
@@ -9,7 +9,6 @@ use Rattle.qsm.specs.declared.state.Module.{Module}
 use Rattle.until_change.specs.Change.{look, same_look, first_of, until_change}
 use Rattle.until_change.specs.Steady.{ahead, steady}
 use Rattle.until_change.specs.declared.Look.{Look}
-use Rattle.until_change.specs.declared.Change.{Change}
 use Rattle.until_change.specs.declared.Change.TheVariants.{After}
 use Rattle.until_change.proofs.First.{found, passes}
 use Rattle.until_change.proofs.Steadily.{steady_look, look_ahead, ahead_add}

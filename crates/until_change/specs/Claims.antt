@@ -4,7 +4,6 @@ use Rattle.qsm.specs.model.Event.{does, step, passes}
 use Rattle.qsm.specs.model.State.{reset_module}
 use Rattle.qsm.specs.declared.state.Module.{Module}
 use Rattle.qsm.specs.declared.event.Access.TheVariants.{Write}
-use Rattle.qsm.specs.declared.event.Event.{Event}
 use Rattle.qsm.specs.declared.event.Event.TheVariants.{Hold}
 use Rattle.qsm.specs.declared.event.Event.TheVariants as event
 use Rattle.until_change.specs.Change.{look_of, look, same_look, differs, until_change}
