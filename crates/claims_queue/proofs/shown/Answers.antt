@@ -1,12 +1,11 @@
 use mathlib.Core.Path.{refl}
-use Rattle.claims_queue.proofs.shown.Statement.{statement}
-use Rattle.claims_queue.proofs.shown.Tie as tie
+use Rattle.claims_queue.proofs.shown.Goals as goal
 use Rattle.claims_queue.proofs.Complete.{entries, words}
 use Rattle.claims_queue.proofs.Follows.{off, over, follows, halts}
 use Rattle.claims_queue.proofs.Stops.{holds, too_fast, mode_fault, cleared, met}
 use Rattle.claims_queue.proofs.Writes.{rises, newqp_before, newqp_within, upper_before, working_goes_on, working_ends, halt_within, halt_cleared}
 
-returns : tie.Need-returns
+pub returns : goal.returns
 returns c = (
   refl,
   record {
@@ -31,6 +30,3 @@ returns c = (
     met = met;
   },
 )
-
-pub shown-spec : {M : Type 1} → statement M
-shown-spec = tie.close (tie.spec returns)
