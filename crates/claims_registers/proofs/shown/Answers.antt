@@ -1,6 +1,5 @@
 use mathlib.Core.Path.{refl}
-use Rattle.claims_registers.proofs.shown.Statement.{statement}
-use Rattle.claims_registers.proofs.shown.Tie as tie
+use Rattle.claims_registers.proofs.shown.Goals as goal
 use Rattle.claims_registers.proofs.Formed.{keeps}
 use Rattle.claims_registers.proofs.Bytes.{bytes_back}
 use Rattle.claims_registers.proofs.OwnBytes.{byte_14}
@@ -9,7 +8,7 @@ use Rattle.claims_registers.proofs.Longs.{long_writes}
 use Rattle.claims_registers.proofs.Users.{users_are}
 use Rattle.claims_registers.proofs.Reading.{shown_by}
 
-returns : tie.Need-returns
+pub returns : goal.returns
 returns c = (
   refl,
   record {
@@ -22,6 +21,3 @@ returns c = (
     shown_by = shown_by;
   },
 )
-
-pub shown-spec : {M : Type 1} → statement M
-shown-spec = tie.close (tie.spec returns)
