@@ -5,10 +5,9 @@ use Rattle.tool_plan.proofs.Planning.{sound, complete, refuses, least, any_windo
 use Rattle.tool_plan.proofs.InOrder.{in_order}
 use Rattle.tool_plan.proofs.Doing.{does_what_it_says}
 use Rattle.tool_plan.proofs.Meeting.{example}
-use Rattle.tool_plan.proofs.claims.shown.Statement.{statement}
-use Rattle.tool_plan.proofs.claims.shown.Tie as tie
+use Rattle.tool_plan.proofs.claims.shown.Goals as goal
 
-returns : tie.Need-returns
+pub returns : goal.returns
 returns c = (
   refl,
   record {
@@ -25,6 +24,3 @@ returns c = (
     example = example;
   },
 )
-
-pub shown-spec : {M : Type 1} → statement M
-shown-spec = tie.close (tie.spec returns)
