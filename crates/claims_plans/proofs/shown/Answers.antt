@@ -3,10 +3,9 @@ use Rattle.claims_plans.proofs.Cut.{cut_is_watched}
 use Rattle.claims_plans.proofs.Laying.{load_lays}
 use Rattle.claims_plans.proofs.Last.{any_last_write, word_last, loaded_in_order, holds_are_watched}
 use Rattle.claims_plans.proofs.Meeting.{example}
-use Rattle.claims_plans.proofs.shown.Statement.{statement}
-use Rattle.claims_plans.proofs.shown.Tie as tie
+use Rattle.claims_plans.proofs.shown.Goals as goal
 
-returns : tie.Need-returns
+pub returns : goal.returns
 returns c = (
   refl,
   record {
@@ -19,6 +18,3 @@ returns c = (
     example = example;
   },
 )
-
-pub shown-spec : {M : Type 1} → statement M
-shown-spec = tie.close (tie.spec returns)
