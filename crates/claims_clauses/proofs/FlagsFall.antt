@@ -7,7 +7,6 @@ use Rattle.steps.specs.Bits.{bit}
 use Rattle.steps.specs.Iterate.{iterate}
 use Rattle.sci.specs.model.Flags.{receive_flags}
 use Rattle.sci.specs.claims.Members.{member}
-use Rattle.sci.specs.model.Status.{fall}
 use Rattle.sci.specs.model.Serial.{sccr1_word}
 use Rattle.sci.proofs.Flagged.{is_set, is_marked}
 use Rattle.qsm.specs.model.Map.{decode}

@@ -1,21 +1,19 @@
 -- The noise figure of a frame is the sum over its samples. Assumes nothing.
 use mathlib.Core.Path.{◌≡◌, refl, sym, ap, subst, ◌∙◌}
-use mathlib.Core.Bool.{Bool, true, false, cond, not, ◌&&◌, ◌||◌, true≢false, false≢true}
+use mathlib.Core.Bool.{Bool, true, false, cond, not, ◌&&◌, true≢false, false≢true}
 use mathlib.Core.List.{List, [], ◌∷◌}
-use Prim.Native.Nat.{ℕ, ◌+◌, ◌%◌, ◌≤◌, min}
+use Prim.Native.Nat.{ℕ, ◌+◌, ◌%◌, ◌≤◌}
 use native.Mathlib.Omega.{arith}
 use native.Mathlib.Nat.{add_assoc}
 use lib.Dec.{eqb}
 use borrow.Author.Tests.{eqb-true, not-true}
-use Rattle.steps.specs.Bits.{digit}
 use Rattle.sci.specs.model.Flags.{OR, RDRF}
 use Rattle.sci.specs.claims.Members.{member}
 use Rattle.sci.specs.model.Status.{has, raise_if}
 use Rattle.sci.specs.model.Control.{M, bits_of}
 use Rattle.sci.specs.model.Bits.{vote}
-use Rattle.sci.specs.model.Framer.{begun, more, ends, frame_of, framed}
-use Rattle.sci.specs.model.Receiver.{three, takes, outcome, entered, status_after, receiver_after, received}
-use Rattle.sci.specs.declared.flags.Flags.{Flags}
+use Rattle.sci.specs.model.Framer.{begun, ends, frame_of, framed}
+use Rattle.sci.specs.model.Receiver.{three, outcome, entered, status_after, receiver_after, received}
 use Rattle.sci.specs.declared.framer.Framer.{Framer}
 use Rattle.sci.specs.declared.framer.Frame.{Frame}
 use Rattle.sci.specs.declared.receiver.Receiver.{Receiver}
@@ -29,7 +27,7 @@ use Rattle.qsm.proofs.Booleans.{and_false, on, clash}
 use Rattle.claims_clauses.specs.Starts.{hear, in_frame}
 use Rattle.claims_clauses.specs.Noise.{disagree, start_gives, bit_gives, gives, given, stays, FrameNoise, NoiseClauses}
 use Rattle.claims_clauses.proofs.Starts.{searches}
-use Rattle.claims_clauses.proofs.Figure.{disagrees, disagree_small, InStart, InBits, Going, start, bits}
+use Rattle.claims_clauses.proofs.Figure.{disagrees, disagree_small, Going, start, bits}
 use Rattle.claims_clauses.proofs.Sums.{goes}
 
 few : (c : ℕ) → bits_of (M c) ≤ 200

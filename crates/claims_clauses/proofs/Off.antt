@@ -1,8 +1,8 @@
 -- While RE is clear the receiver is in its start state. Assumes nothing.
 use mathlib.Core.Path.{◌≡◌, refl, sym, ap, ◌∙◌}
-use mathlib.Core.Bool.{Bool, true, false, cond, true≢false, false≢true}
+use mathlib.Core.Bool.{Bool, true, false, cond}
 use mathlib.Core.List.{List, [], ◌∷◌}
-use Prim.Native.Nat.{ℕ, zero, suc, ◌+◌, ◌*◌, ◌/◌, ◌%◌, ◌^◌, ◌<◌}
+use Prim.Native.Nat.{ℕ, zero, suc, ◌+◌, ◌/◌, ◌%◌, ◌^◌}
 use native.Mathlib.Omega.{arith}
 use lib.Dec.{eqb}
 use Rattle.steps.specs.Bits.{bit, merge}
@@ -32,7 +32,6 @@ use Rattle.qsm.specs.declared.event.Event.TheVariants as event
 use Rattle.qsm.proofs.Booleans.{clash, same_digit}
 use Rattle.qsm.proofs.Limit.{hold_if}
 use Rattle.qsm.proofs.Stored.{state_if, write_keeps, own_keeps}
-use Rattle.claims_clauses.specs.FlagsFall.{RE}
 use Rattle.claims_clauses.specs.SeenBy.{run}
 use Rattle.claims_clauses.specs.Off.{Off, WhileOff}
 use Rattle.claims_clauses.proofs.FlagTold.{re_is}

@@ -1,7 +1,7 @@
 -- 'Permitted' by what a host sees. Assumes nothing.
-use mathlib.Core.Path.{◌≡◌, refl, sym, ap, ◌∙◌}
+use mathlib.Core.Path.{◌≡◌, refl, ap}
 use mathlib.Core.Bool.{Bool, true, false, cond, not, ◌&&◌, ◌||◌, true≢false, false≢true}
-use Prim.Native.Nat.{ℕ, ◌+◌, ◌%◌, ◌<◌}
+use Prim.Native.Nat.{ℕ, ◌%◌}
 use native.Mathlib.Nat.{zero-add}
 use lib.Dec.{eqb}
 use borrow.Author.Tests.{eqb-true}
@@ -13,18 +13,15 @@ use Rattle.qsm.specs.model.Own.{peek_own}
 use Rattle.qsm.specs.model.Word.{peek}
 use Rattle.qsm.specs.model.Lanes.{in_map, is_restricted}
 use Rattle.qsm.specs.model.Access.{fetch, fetched}
-use Rattle.qsm.specs.model.Decision.{permits, refusal_of, shaped, fits, barred, gate, tested, admitted, decide_read, stored_by, decide_stored, decide_write}
+use Rattle.qsm.specs.model.Decision.{permits, refusal_of, shaped, fits, gate, tested, admitted, decide_read, stored_by, decide_stored, decide_write}
 use Rattle.qsm.specs.model.Event.{done, answer_of, after_read, read_value, refused, reads, writes, does, step}
 use Rattle.qsm.specs.declared.state.Module.{Module}
 use Rattle.qsm.specs.declared.decision.Decision.{Decision}
 use Rattle.qsm.specs.declared.decision.Decision.TheVariants.{Permitted, Blocked, Misshapen, Unmapped, Unmodelled, Guarded}
-use Rattle.qsm.specs.declared.event.Access.{Access}
 use Rattle.qsm.specs.declared.event.Access.TheVariants.{Read, Write}
 use Rattle.qsm.specs.declared.event.Event.TheVariants as event
-use Rattle.qsm.specs.declared.event.Done.{Done}
 use Rattle.qsm.proofs.Booleans.{both, one_of}
-use Rattle.claims_clauses.specs.FlagsFall.{word, permitted}
-use Rattle.claims_clauses.specs.Permission.{reaches, serial, supervisors, SUPV, Permission}
+use Rattle.claims_clauses.specs.Permission.{reaches, SUPV, Permission}
 use Rattle.claims_clauses.proofs.Places.{every, at, within}
 
 supv_is : (m : Module) → SUPV m ≡ bit 7 m.qsmcr

@@ -1,6 +1,6 @@
 -- Which words of the serial half the bytes of an access are of, computed over the map once. Assumes nothing.
-use mathlib.Core.Path.{◌≡◌, refl, sym, ◌∙◌}
-use mathlib.Core.Bool.{Bool, true, false, not, ◌&&◌, ◌||◌, beq, true≢false, false≢true}
+use mathlib.Core.Path.{◌≡◌, refl, sym}
+use mathlib.Core.Bool.{Bool, true, false, not, ◌&&◌, ◌||◌, beq, false≢true}
 use Prim.Native.Nat.{ℕ, zero, suc, ◌+◌, ◌%◌, ◌<◌, ◌≤◌}
 use native.Mathlib.Omega.{arith}
 use lib.Dec.{eqb, leb, ltb}
@@ -9,10 +9,8 @@ use Rattle.sci.proofs.Membership.{and_left, and_right}
 use Rattle.qsm.specs.model.Map.{decode, mapped}
 use Rattle.qsm.specs.model.Lanes.{lower_lane, in_map, touches}
 use Rattle.qsm.specs.model.Access.{next}
-use Rattle.qsm.specs.model.Decision.{shaped}
 use Rattle.qsm.specs.declared.map.Place.{Place}
 use Rattle.qsm.specs.declared.map.Place.TheVariants.{Own, Serial, Queue, Hole}
-use Rattle.qsm.specs.declared.map.SerialWord.{SerialWord}
 use Rattle.qsm.specs.declared.map.SerialWord.TheVariants.{Sccr0, Sccr1, Scsr, Scdr}
 use Rattle.qsm.proofs.Booleans.{constants, both, left_or, right_or, one_of, on, clash}
 use Rattle.claims_clauses.specs.FlagsFall.{has_byte}

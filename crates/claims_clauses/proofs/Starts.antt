@@ -1,8 +1,8 @@
 -- How a start bit begins and stands. Assumes nothing.
-use mathlib.Core.Path.{◌≡◌, refl, sym, ap, ◌∙◌}
-use mathlib.Core.Bool.{Bool, true, false, cond, not, ◌&&◌, ◌||◌, true≢false, false≢true}
+use mathlib.Core.Path.{◌≡◌, refl, ap, ◌∙◌}
+use mathlib.Core.Bool.{Bool, true, false, cond, not, ◌&&◌, true≢false}
 use mathlib.Core.List.{List, [], ◌∷◌}
-use Prim.Native.Nat.{ℕ, ◌+◌, ◌≤◌, ◌<◌}
+use Prim.Native.Nat.{ℕ, ◌+◌, ◌<◌}
 use native.Mathlib.Omega.{arith}
 use lib.Dec.{ltb}
 use lib.ListN.{get_or}
@@ -10,7 +10,7 @@ use borrow.Author.Tests.{le-ltb}
 use Rattle.steps.specs.Bits.{digit}
 use Rattle.sci.specs.model.Control.{M, bits_of}
 use Rattle.sci.specs.model.Bits.{vote, ones_of}
-use Rattle.sci.specs.model.Framer.{begun, searching, searched, adjusts, start_bit, next_rt, at_rt, first_at, second_at, judged, fixed, framed}
+use Rattle.sci.specs.model.Framer.{begun, searched, start_bit, next_rt, judged, fixed, framed}
 use Rattle.sci.specs.model.Receiver.{start_state, receiver_after, received}
 use Rattle.sci.specs.claims.Levels.{framer_after}
 use Rattle.sci.specs.declared.framer.Framer.{Framer}
@@ -18,7 +18,7 @@ use Rattle.sci.specs.declared.receiver.Receiver.{Receiver}
 use Rattle.sci.specs.declared.receiver.Received.{Received}
 use Rattle.sci.specs.declared.status.Status.{Status}
 use Rattle.sci.proofs.Moves.{moving}
-use Rattle.claims_clauses.specs.Starts.{hear, from, latest, ago, in_frame, ThreeBefore, opening, StartJudged, StartClauses}
+use Rattle.claims_clauses.specs.Starts.{hear, from, latest, in_frame, ThreeBefore, opening, StartJudged, StartClauses}
 
 -- ---- the three samples before
 

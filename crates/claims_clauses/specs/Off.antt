@@ -1,6 +1,6 @@
 -- Document 01, Receiver: while RE is clear, from a reset on, the receiver is in its start state. So what it has heard when RE is set again, or
 -- for the first time, is nothing: `ThreeBefore` then tells the samples since RE rose. That RAF falls with RE is in `FlagsFall`.
-use Rattle.std.specs.Prelude.{◌≡◌, false, List, ℕ}
+use Rattle.std.specs.Prelude.{◌≡◌, false, List}
 use Rattle.sci.specs.model.Receiver.{start_state}
 use Rattle.sci.specs.declared.receiver.Receiver.{Receiver}
 use Rattle.qsm.specs.model.State.{reset_module}

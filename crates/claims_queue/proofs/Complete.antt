@@ -1,7 +1,7 @@
 -- Edge 2n and the delay by the paper's numbers. Assumes nothing.
 use mathlib.Core.Path.{◌≡◌, refl, sym, ap, subst, ◌∙◌}
 use mathlib.Core.Bool.{Bool, true, false, cond, not, ◌&&◌, ◌||◌, true≢false}
-use Prim.Native.Nat.{ℕ, zero, suc, ◌+◌, ◌-◌, ◌*◌, ◌/◌, ◌%◌, ◌≤◌, ◌<◌}
+use Prim.Native.Nat.{ℕ, zero, suc, ◌+◌, ◌-◌, ◌*◌, ◌/◌, ◌%◌, ◌<◌}
 use native.Mathlib.Omega.{arith}
 use lib.Dec.{eqb}
 use lib.ListN.{set}
@@ -10,7 +10,7 @@ use Rattle.steps.specs.Bits.{bit}
 use Rattle.qspi.specs.model.Fields.{cpha, spe, wren, endqp, cont, pcs_field, bits_of, pre_delay, delay_after}
 use Rattle.qspi.specs.model.Queue.{entry_at, begun, stored, followed, completed, miso_of}
 use Rattle.qspi.specs.model.Outputs.{sck, mosi, pcs}
-use Rattle.qspi.specs.claims.Run.{run, bits_in, spbr_in, delay_in, last_clock, during, bits_read, word_of, waiting}
+use Rattle.qspi.specs.claims.Run.{run, bits_in, spbr_in, delay_in, during, bits_read, word_of, waiting}
 use Rattle.qspi.specs.claims.Laws.{Starting, goes_on}
 use Rattle.qspi.specs.declared.Qspi.{Qspi}
 use Rattle.qspi.specs.declared.Pins.{Pins}
@@ -19,8 +19,8 @@ use Rattle.qspi.proofs.Mosi.{mosi_holds}
 use Rattle.qspi.proofs.Word.{entry_small, word_stored, unused_zero, bits_in_order}
 use Rattle.qspi.proofs.Delay.{delay_runs, no_spe}
 use Rattle.qspi.proofs.Lines.{pcs_delay}
-use Rattle.claims_queue.specs.Numbers.{Calm, Next, is_last, ends}
-use Rattle.claims_queue.specs.Entry.{Complete, Waiting, Entry, Entries, Words, command, n, edge_at, last_at, read_at}
+use Rattle.claims_queue.specs.Numbers.{Calm, is_last, ends}
+use Rattle.claims_queue.specs.Entry.{Complete, Waiting, Entry, Entries, Words, n, last_at, read_at}
 use Rattle.claims_queue.proofs.Entry.{starting, edge_is, last_is, before_edges, between_edges}
 
 -- The entry at edge 2n.

@@ -1,12 +1,12 @@
 -- An entry before edge 2n by the paper's numbers, from the half's laws of edges. Assumes nothing.
 use mathlib.Core.Path.{◌≡◌, refl, sym, ap, subst, ◌∙◌}
 use mathlib.Core.Bool.{Bool, true, false, not, ◌&&◌, true≢false}
-use Prim.Native.Nat.{ℕ, zero, suc, ◌+◌, ◌-◌, ◌*◌, ◌%◌, ◌≤◌, ◌<◌}
+use Prim.Native.Nat.{ℕ, zero, suc, ◌+◌, ◌-◌, ◌*◌, ◌%◌, ◌<◌}
 use native.Mathlib.Nat.{zero-add}
 use native.Mathlib.Omega.{arith}
 use lib.Dec.{eqb, leb}
 use borrow.Author.Tests.{le-leb, eqb-true, eqb-false}
-use Rattle.qspi.specs.model.Fields.{cpha, halt, bits_of, pre_delay, delay_after}
+use Rattle.qspi.specs.model.Fields.{cpha, bits_of, pre_delay}
 use Rattle.qspi.specs.model.Entry.{mosi_after}
 use Rattle.qspi.specs.model.Queue.{entry_at, begun}
 use Rattle.qspi.specs.model.Outputs.{sck, mosi, pcs}
@@ -17,8 +17,8 @@ use Rattle.qspi.specs.declared.Pins.{Pins}
 use Rattle.qspi.proofs.Bounds.{bits_pos, pre_pos}
 use Rattle.qspi.proofs.Edges.{edge_formula, edges_fall, fast}
 use Rattle.qspi.proofs.Mosi.{by_test, even_holds, mosi_shows}
-use Rattle.claims_queue.specs.Numbers.{Calm, Next, pre}
-use Rattle.claims_queue.specs.Entry.{Playing, command, n, edge_at, last_at, mosi_at}
+use Rattle.claims_queue.specs.Numbers.{Calm, Next}
+use Rattle.claims_queue.specs.Entry.{Playing, edge_at, last_at, mosi_at}
 
 -- Before clock 1 as the half says it, and back.
 pub starting : (q : Qspi) (i : ℕ) → Next q i → Starting q

@@ -1,11 +1,10 @@
 -- What follows an entry. Assumes nothing.
-use mathlib.Core.Path.{◌≡◌, refl, sym, ap, subst, ◌∙◌}
+use mathlib.Core.Path.{◌≡◌, refl, ap, subst, ◌∙◌}
 use mathlib.Core.Bool.{Bool, true, false, cond, not, ◌&&◌, true≢false}
-use Prim.Native.Nat.{ℕ, zero, suc, ◌+◌, ◌*◌, ◌/◌, ◌%◌, ◌<◌}
+use Prim.Native.Nat.{ℕ, zero, suc, ◌+◌, ◌/◌, ◌%◌}
 use native.Mathlib.Omega.{arith}
-use lib.Dec.{eqb}
 use Rattle.steps.specs.Bits.{bit}
-use Rattle.qspi.specs.model.Fields.{spe, cont, pcs_field, delay_after, bits_of, pre_delay}
+use Rattle.qspi.specs.model.Fields.{cont, pcs_field, delay_after, bits_of, pre_delay}
 use Rattle.qspi.specs.model.Registers.{write_spcr3_spsr}
 use Rattle.qspi.specs.model.Queue.{entry_at, begun, clock, stored, followed}
 use Rattle.qspi.specs.model.Outputs.{pcs}
@@ -15,9 +14,9 @@ use Rattle.qspi.specs.declared.Qspi.{Qspi}
 use Rattle.qspi.specs.declared.Pins.{Pins}
 use Rattle.qspi.proofs.Delay.{next_starts, halt_comes, halt_holds, halt_releases, field_on}
 use Rattle.qspi.proofs.Quiet.{clock_off}
-use Rattle.claims_queue.specs.Numbers.{Calm, Next, is_last, ends, after}
+use Rattle.claims_queue.specs.Numbers.{Calm, is_last, ends, after}
 use Rattle.claims_queue.specs.Entry.{last_at}
-use Rattle.claims_queue.specs.Follows.{length, Over, Kept, GoesOn, EntryFollows, Halts, EntryHalts}
+use Rattle.claims_queue.specs.Follows.{length, Over, GoesOn, EntryFollows, Halts, EntryHalts}
 use Rattle.claims_queue.specs.Stops.{Off}
 use Rattle.claims_queue.proofs.Entry.{starting, next_of, last_is}
 use Rattle.claims_queue.proofs.Complete.{at_end, ended, complete, on}

@@ -1,24 +1,22 @@
 -- What stops a queue, and a hold as clocks of it. Assumes nothing.
 use mathlib.Core.Path.{◌≡◌, refl, sym, ap, subst, ◌∙◌}
-use mathlib.Core.Bool.{Bool, true, false, cond}
-use Prim.Native.Nat.{ℕ, ◌%◌}
+use mathlib.Core.Bool.{true, false}
+use Prim.Native.Nat.{ℕ}
 use native.Mathlib.Omega.{arith}
-use Rattle.steps.specs.Bits.{bit, merge}
+use Rattle.steps.specs.Bits.{merge}
 use Rattle.qspi.specs.model.Fields.{spe}
 use Rattle.qspi.specs.model.Parts.{with_registers}
 use Rattle.qspi.specs.model.Registers.{reset, with_spcr1, switched, write_spcr1}
-use Rattle.qspi.specs.model.Queue.{clock, faulted, fault_now}
+use Rattle.qspi.specs.model.Queue.{faulted, fault_now}
 use Rattle.qspi.specs.claims.Run.{run}
 use Rattle.qspi.specs.claims.Marked.{set_up}
 use Rattle.qspi.specs.declared.Qspi.{Qspi}
-use Rattle.qspi.specs.declared.Pins.{Pins}
 use Rattle.qspi.proofs.Delay.{no_spe}
 use Rattle.qspi.proofs.Edges.{hold_runs}
 use Rattle.qspi.proofs.FieldClauses.{field_clauses}
 use Rattle.qspi.proofs.Lines.{spe_written}
 use Rattle.qspi.proofs.Quiet.{clock_faults}
 use Rattle.qsm.specs.model.Event.{step, clocks, held, answer_of, does}
-use Rattle.qsm.specs.declared.event.Done.{Done}
 use Rattle.qsm.proofs.Limit.{hold_if}
 use Rattle.qsm.proofs.Clocks.{apart}
 use Rattle.claims_queue.specs.Stops.{TooFast, Abandoned, Faulted, ModeFault, Cleared}

@@ -1,13 +1,13 @@
 -- What writes do before and in an entry. Assumes nothing.
 use mathlib.Core.Path.{◌≡◌, refl, sym, ap, subst, ◌∙◌}
 use mathlib.Core.Bool.{Bool, true, false, cond, not, ◌&&◌, ◌||◌}
-use Prim.Native.Nat.{ℕ, zero, suc, ◌+◌, ◌-◌, ◌*◌, ◌/◌, ◌%◌, ◌≤◌, ◌<◌}
+use Prim.Native.Nat.{ℕ, ◌+◌, ◌-◌, ◌/◌, ◌%◌, ◌≤◌, ◌<◌}
 use native.Mathlib.Nat.{div-one}
 use native.Mathlib.Omega.{arith}
-use lib.Dec.{eqb, leb}
+use lib.Dec.{eqb}
 use borrow.Author.Tests.{le-leb}
 use Rattle.steps.specs.Bits.{bit, merge}
-use Rattle.qspi.specs.model.Fields.{spe, halt, bits_of, pre_delay, delay_after}
+use Rattle.qspi.specs.model.Fields.{spe, halt}
 use Rattle.qspi.specs.model.Spsr.{falling, fallen}
 use Rattle.qspi.specs.model.Registers.{spcr2_bits, write_spcr1, write_spcr2, write_spcr3_spsr}
 use Rattle.qspi.specs.model.Queue.{entry_at, begun, delayed}

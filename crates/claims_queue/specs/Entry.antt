@@ -1,6 +1,6 @@
 -- Document 01, Queue: an entry clock by clock, from clock 1 to the end of its delay, as it shows on the pins, in SPSR and in the RAM. The queue
 -- stands before clock 1 of entry i; there is no mode fault, and no write.
-use Rattle.std.specs.Prelude.{◌≡◌, Bool, true, false, cond, not, ◌&&◌, ◌||◌, ℕ, ◌+◌, ◌-◌, ◌*◌, ◌/◌, ◌%◌, ◌^◌, ◌<◌, eqb, get_or, set}
+use Rattle.std.specs.Prelude.{◌≡◌, Bool, false, cond, not, ◌||◌, ℕ, ◌+◌, ◌-◌, ◌*◌, ◌/◌, ◌%◌, ◌^◌, ◌<◌, eqb, get_or, set}
 use Rattle.steps.specs.Bits.{bit}
 use Rattle.qspi.specs.model.Outputs.{sck, mosi, pcs}
 use Rattle.qspi.specs.claims.Run.{run, word_of}

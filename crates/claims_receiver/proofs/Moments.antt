@@ -9,7 +9,7 @@ use Rattle.sci.specs.model.Serial.{sampled, wrote_sccr1}
 use Rattle.sci.specs.claims.Levels.{low_bits}
 use Rattle.sci.specs.claims.Marked.{samples}
 use Rattle.sci.specs.claims.Moves.{lasting}
-use Rattle.claims_receiver.specs.Moments.{IdleAt, Idles, Abandons, DrivenFor, Driven, LateFalls}
+use Rattle.claims_receiver.specs.Moments.{Idles, Abandons, Driven, LateFalls}
 
 pub idles : Idles
 unfolding samples sampled sent received outcome raised entered status_after receiver_after framed fixed start_bit data_bit stop_bit has raise raise_if fall fall_if wrote_sccr1

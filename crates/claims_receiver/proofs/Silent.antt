@@ -1,25 +1,23 @@
 -- With RE clear the receiver keeps silent; four samples through holds. Assumes nothing.
 use mathlib.Core.Path.{◌≡◌, refl, sym, ap, ◌∙◌}
 use mathlib.Core.Bool.{Bool, true, false, cond, ◌&&◌, ◌||◌}
-use Prim.Native.Nat.{ℕ, zero, suc, ◌+◌, ◌*◌, ◌/◌, ◌%◌, ◌^◌, ◌<◌}
+use Prim.Native.Nat.{ℕ, zero, suc, ◌+◌, ◌/◌, ◌%◌, ◌^◌, ◌<◌}
 use native.Mathlib.Omega.{arith}
 use Rattle.steps.specs.Bits.{bit}
 use Rattle.steps.specs.Iterate.{iterate}
 use Rattle.sci.specs.model.Control as control
 use Rattle.sci.specs.model.Control.{sccr1_bits}
-use Rattle.sci.specs.model.Flags.{TC, TDRE, flag, insert}
+use Rattle.sci.specs.model.Flags.{TDRE, flag}
 use Rattle.sci.specs.model.Status.{has, raise, raise_if, fall, fall_if, mark_seen}
-use Rattle.sci.specs.model.Framer.{framed, fixed, start_bit}
+use Rattle.sci.specs.model.Framer.{framed, fixed}
 use Rattle.sci.specs.model.Receiver.{outcome, raised, entered, status_after, receiver_after, received}
 use Rattle.sci.specs.model.Transmitter.{sent, ends, begins_frame}
-use Rattle.sci.specs.model.Serial.{sccr1_word, active, due, heard, prescaled, sampled, clocked, wrote_sccr0, wrote_sccr1, sccr0_guarded, sccr1_guarded}
-use Rattle.sci.specs.model.Parts.{after_sent}
+use Rattle.sci.specs.model.Serial.{active, due, prescaled, sampled, clocked, wrote_sccr0, wrote_sccr1, sccr0_guarded, sccr1_guarded}
 use Rattle.sci.specs.claims.Members.{member}
 use Rattle.sci.specs.declared.serial.Sci.{Sci}
 use Rattle.sci.specs.declared.status.Status.{Status}
-use Rattle.sci.proofs.Flagged.{is_set}
 use Rattle.sci.proofs.Membership.{bit_of_or}
-use Rattle.qspi.specs.model.Registers.{reset, write_spcr1}
+use Rattle.qspi.specs.model.Registers.{reset}
 use Rattle.qspi.specs.model.Queue.{clock, queue_clock}
 use Rattle.qsm.specs.model.State.{reset_module}
 use Rattle.qsm.specs.model.Map.{decode}
@@ -36,10 +34,9 @@ use Rattle.qsm.proofs.Booleans.{same_digit}
 use Rattle.qsm.proofs.Clocks.{apart}
 use Rattle.qsm.proofs.Limit.{hold_if}
 use Rattle.qsm.proofs.Words.{word_read}
-use Rattle.claims_clauses.specs.FlagsFall.{word, set, RE}
 use Rattle.claims_clauses.proofs.FlagTold.{set_is, re_is}
 use Rattle.claims_clauses.proofs.FlagWritten.{quarter}
-use Rattle.claims_receiver.specs.Silent.{Silent, OffSilent, FourSamples}
+use Rattle.claims_receiver.specs.Silent.{OffSilent, FourSamples}
 
 -- RE is bit 2 of what is kept of a word, and of what is read of it.
 re_word : (asleep : Bool) (c : ℕ) → bit 2 (cond asleep (sccr1_bits c + 2) (sccr1_bits c)) ≡ control.RE c

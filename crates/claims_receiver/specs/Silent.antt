@@ -1,6 +1,6 @@
 -- Document 01, Receiver: with RE clear no receive flag rises or falls in a hold, RAF and SCDR stay, also while TE is set or a frame runs. And the
 -- three samples before a start, told through holds.
-use Rattle.std.specs.Prelude.{◌≡◌, Bool, true, false, not, ◌&&◌, ℕ, ◌*◌, ◌<◌}
+use Rattle.std.specs.Prelude.{◌≡◌, Bool, false, not, ◌&&◌, ℕ, ◌<◌}
 use Rattle.qsm.specs.model.Event.{step}
 use Rattle.qsm.specs.claims.Registers.{writing}
 use Rattle.qsm.specs.declared.state.Module.{Module}

@@ -8,7 +8,7 @@ use Rattle.steps.specs.Bits.{merge}
 use Rattle.steps.specs.Iterate.{iterate}
 use Rattle.qspi.specs.model.Fields.{spe}
 use Rattle.qspi.specs.model.Parts.{with_registers}
-use Rattle.qspi.specs.model.Registers.{reset, with_spcr1, spcr2_bits, switched, write_spcr1}
+use Rattle.qspi.specs.model.Registers.{reset, with_spcr1, switched, write_spcr1}
 use Rattle.qspi.specs.model.Queue.{followed, clock}
 use Rattle.qspi.specs.declared.Qspi.{Qspi}
 use Rattle.qspi.specs.declared.Pins.{Pins}

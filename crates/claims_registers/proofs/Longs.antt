@@ -1,16 +1,16 @@
 -- A long write as its two words. Assumes nothing.
-use mathlib.Core.Path.{◌≡◌, refl, sym, ap, subst, ◌∙◌}
-use mathlib.Core.Bool.{Bool, true, false, not, ◌&&◌, ◌||◌, true≢false}
+use mathlib.Core.Path.{◌≡◌, refl, sym, ap, ◌∙◌}
+use mathlib.Core.Bool.{Bool, true, false, ◌&&◌, ◌||◌, true≢false}
 use Prim.Native.Nat.{ℕ, ◌+◌, ◌*◌, ◌/◌, ◌%◌, ◌<◌}
 use native.Mathlib.Omega.{arith}
-use lib.Dec.{eqb, ltb}
+use lib.Dec.{eqb}
 use borrow.Author.Tests.{eq-eqb, ltb-true}
 use Rattle.steps.specs.Iterate.{iterate}
 use Rattle.qsm.specs.model.Map.{decode, mapped}
 use Rattle.qsm.specs.model.Lanes as lanes
 use Rattle.qsm.specs.model.Word.{put, unmodelled, guarded}
-use Rattle.qsm.specs.model.Access.{next, store, stored}
-use Rattle.qsm.specs.model.Decision.{shaped, fits, admitted, stored_by, decide_stored}
+use Rattle.qsm.specs.model.Access.{store, stored}
+use Rattle.qsm.specs.model.Decision.{fits, admitted, stored_by, decide_stored}
 use Rattle.qsm.specs.model.Event.{answer_of, refused, writes, does, step}
 use Rattle.qsm.specs.claims.Registers.{writing}
 use Rattle.qsm.specs.declared.state.Module.{Module}

@@ -9,7 +9,7 @@ use Rattle.qsm.specs.model.Word.{peek, put}
 use Rattle.qsm.specs.claims.Registers.{row}
 use Rattle.qsm.specs.declared.state.Module.{Module}
 use Rattle.qsm.proofs.Masks.{mask_008F, mask_3FFE, mask_7BFF}
-use Rattle.qsm.proofs.Words.{byte_read, written}
+use Rattle.qsm.proofs.Words.{byte_read}
 use Rattle.claims_registers.specs.Formed.{Formed}
 use Rattle.claims_registers.specs.Bytes.{ByteWritten, Byte14}
 use Rattle.claims_registers.proofs.Numbers.{up, down, qsmcr_upper, qsmcr_upper_other, qsmcr_lower, qsmcr_lower_other, interrupts_upper, interrupts_lower, interrupts_upper_other, interrupts_lower_other, directions_at}

@@ -18,7 +18,7 @@ use Rattle.qsm.specs.model.Word.{peek, put, unmodelled}
 use Rattle.qsm.specs.claims.Registers.{row}
 use Rattle.qsm.specs.declared.state.Module.{Module}
 use Rattle.qsm.proofs.Masks.{mask_BFFF, mask_EF0F}
-use Rattle.qsm.proofs.Words.{byte_read, written}
+use Rattle.qsm.proofs.Words.{byte_read}
 use Rattle.claims_registers.specs.Formed.{Formed}
 use Rattle.claims_registers.specs.Bytes.{ByteWritten, HaltByte}
 use Rattle.claims_registers.proofs.Numbers.{up, down}

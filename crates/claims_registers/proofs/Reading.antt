@@ -1,16 +1,15 @@
 -- Pins and requests by what a host reads, from the laws of the module's answers. Assumes nothing.
 use mathlib.Core.Path.{◌≡◌, refl, sym, ap, subst, ◌∙◌}
-use mathlib.Core.Bool.{Bool, true, false, cond, true≢false}
+use mathlib.Core.Bool.{Bool, true, false, cond}
 use Prim.Native.Nat.{ℕ, ◌+◌, ◌-◌, ◌*◌, ◌/◌, ◌%◌, ◌≤◌, ◌<◌}
 use native.Mathlib.Nat.{div-one}
 use native.Mathlib.Omega.{arith}
-use lib.Dec.{eqb}
 use borrow.Author.Tests.{eqb-true, eqb-false}
 use Rattle.steps.specs.Bits.{bit}
 use Rattle.qsm.specs.model.Map.{decode}
 use Rattle.qsm.specs.model.Own.{peek_own, put_own}
 use Rattle.qsm.specs.model.Word.{peek, put}
-use Rattle.qsm.specs.model.Event.{answer_of, does, step}
+use Rattle.qsm.specs.model.Event.{answer_of, step}
 use Rattle.qsm.specs.claims.Registers.{reading, writing}
 use Rattle.qsm.specs.claims.StatusFlags.{Half, SCI, QSPI, Flag, half, read_at}
 use Rattle.qsm.specs.claims.RequestClauses.{asks, RequestClauses, Shows}
@@ -18,14 +17,13 @@ use Rattle.qsm.specs.claims.RequestClauses as clauses
 use Rattle.qsm.specs.claims.PinClauses.{SPE, driven, high, PinClauses}
 use Rattle.qsm.specs.declared.state.Module.{Module}
 use Rattle.qsm.specs.declared.event.Access.TheVariants.{Write}
-use Rattle.qsm.specs.declared.event.Event.{Event}
 use Rattle.qsm.specs.declared.event.Event.TheVariants as event
 use Rattle.qsm.specs.declared.event.Answer.{Answer}
 use Rattle.qsm.proofs.Words.{byte_read}
 use Rattle.qsm.proofs.PinClauses.{pins}
 use Rattle.qsm.proofs.Requests.{requests}
 use Rattle.claims_registers.specs.Formed.{Formed}
-use Rattle.claims_registers.specs.Reading.{output, Driven, PortWritten, level_of, vector_of, Asking, Requested, ShownBy}
+use Rattle.claims_registers.specs.Reading.{output, Driven, PortWritten, level_of, vector_of, Requested, ShownBy}
 use Rattle.claims_registers.proofs.Masked.{merged_upper, merged_lower}
 use Rattle.claims_registers.proofs.Formed.{keeps}
 use Rattle.claims_registers.proofs.Lanes.{byte_put}

@@ -17,7 +17,7 @@ use Rattle.qsm.specs.model.Word.{peek, put}
 use Rattle.qsm.specs.claims.Registers.{row}
 use Rattle.qsm.specs.declared.state.Module.{Module}
 use Rattle.qsm.proofs.Masks.{mask_1FFE}
-use Rattle.qsm.proofs.Words.{byte_read, written}
+use Rattle.qsm.proofs.Words.{byte_read}
 use Rattle.claims_registers.specs.Formed.{Formed}
 use Rattle.claims_registers.specs.Bytes.{ByteWritten}
 use Rattle.claims_registers.proofs.Numbers.{up, down, sccr0_upper, sccr0_upper_other, sccr0_lower, sccr0_lower_other, sccr1_upper, sccr1_upper_other, sccr1_lower, sccr1_lower_other}

@@ -1,10 +1,10 @@
 -- A user's access beside a supervisor's. Assumes nothing.
 use mathlib.Core.Path.{◌≡◌, refl, sym, ap, ◌∙◌}
-use mathlib.Core.Bool.{Bool, true, false, cond, not, ◌&&◌, ◌||◌, true≢false}
-use Prim.Native.Nat.{ℕ, ◌+◌, ◌/◌, ◌%◌, ◌<◌, ◌≤◌}
+use mathlib.Core.Bool.{Bool, true, false, cond, ◌&&◌, ◌||◌, true≢false}
+use Prim.Native.Nat.{ℕ, ◌+◌, ◌/◌}
 use native.Mathlib.Omega.{arith}
 use lib.Dec.{eqb, leb}
-use borrow.Author.Tests.{eqb-true, eqb-false, eq-eqb, ne_eqb, le-leb}
+use borrow.Author.Tests.{eqb-true, eqb-false, ne_eqb, le-leb}
 use Rattle.steps.specs.Bits.{bit}
 use Rattle.qsm.specs.model.Map.{decode, restricted, from}
 use Rattle.qsm.specs.model.Own.{peek_own}
@@ -17,7 +17,7 @@ use Rattle.qsm.specs.declared.state.Module.{Module}
 use Rattle.qsm.specs.declared.map.Place.{Place}
 use Rattle.qsm.specs.declared.event.Stepped.{Stepped}
 use Rattle.qsm.proofs.Words.{word_read}
-use Rattle.qsm.proofs.Ranges.{inside, past, by_words, decode_word, ram_word}
+use Rattle.qsm.proofs.Ranges.{by_words, decode_word, ram_word}
 use Rattle.claims_registers.specs.Users.{does, SUPV, touches, User, Users}
 use Rattle.claims_registers.specs.Users as users
 

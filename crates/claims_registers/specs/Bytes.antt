@@ -1,6 +1,6 @@
 -- Document 01, Register map: a byte of a register written by itself. It reads back as that byte of a word would, and the other byte of the word
 -- reads what it read before. In any module.
-use Rattle.std.specs.Prelude.{◌≡◌, List, [], ◌∷◌, ℕ, ◌+◌, ◌*◌, ◌/◌, ◌%◌, ◌<◌}
+use Rattle.std.specs.Prelude.{◌≡◌, List, [], ◌∷◌, ℕ, ◌+◌, ◌*◌, ◌/◌, ◌%◌}
 use Rattle.std.specs.Int.Bits.{bit_and, bit_or}
 use Rattle.qsm.specs.claims.Registers.{Row, row, Each, reading, writing}
 use Rattle.qsm.specs.declared.state.Module.{Module}

@@ -7,7 +7,7 @@ use borrow.Author.Tests.{ltb-true, leb-true, eqb-true, not-true, lt-ltb, le-leb,
 use Rattle.qspi.specs.model.Fields.{mstr, spbr, spe, wren, pcs_field, bits_of}
 use Rattle.qspi.specs.model.Registers.{spcr0_unmodelled}
 use Rattle.qsm.proofs.Booleans.{both}
-use Rattle.tool_plan.specs.Check.{each, select_no, bits_no, word_no, command_no, sent_no, in_range, ranged, proper, carries, carried, pointed, allowed, clock_of, accepts}
+use Rattle.tool_plan.specs.Check.{each, select_no, bits_no, word_no, command_no, sent_no, in_range, ranged, proper, carried, pointed, allowed, clock_of, accepts}
 use Rattle.tool_plan.specs.Accepted.{InRange, Proper, Carries, Accepted, Means}
 use Rattle.tool_plan.specs.declared.SetPoints.{SetPoints}
 use Rattle.tool_plan.specs.declared.Plan.{Plan}

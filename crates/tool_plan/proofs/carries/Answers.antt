@@ -1,0 +1,4 @@
+use Rattle.tool_plan.proofs.carries.Goals as goal
+
+pub returns : goal.returns
+returns c = rw c.bits_of.ensures

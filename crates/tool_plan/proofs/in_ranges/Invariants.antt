@@ -1,0 +1,11 @@
+use mathlib.Core.Path.{◌≡◌}
+use Prim.Native.Nat.{◌≤◌, ◌-◌}
+use lib.ListN.{get_or}
+use Rattle.tool_plan.specs.Check.{each, in_range}
+use Rattle.tool_plan.proofs.in_ranges.Given as goal
+
+abbrev pub invariant-loop-k : goal.invariant-loop-k
+invariant-loop-k l = (l.k ≤ l.n) × (l.all ≡ each l.k (λ i. in_range (get_or l.selects i 0) (get_or l.bits i 0) (get_or l.words i 0)))
+
+abbrev pub decreases-loop-k : goal.decreases-loop-k
+decreases-loop-k l = l.n - l.k

@@ -1,0 +1,19 @@
+use native.Mathlib.Numerals.{add-one}
+use native.Mathlib.Omega.{arith}
+use mathlib.Core.Path.{◌≡◌}
+use borrow.Author.Rules.{rules}
+use Rattle.tool_plan.specs.Quickest.{other_count}
+use Rattle.tool_plan.proofs.quickest.other_count.Goals as goal
+
+pub loop-k-init : goal.loop-k-init
+unfolding other_count
+loop-k-init c = search rules
+
+pub loop-k-preserved : goal.loop-k-preserved
+unfolding other_count
+loop-k-preserved c = (search rules, rw (add-one, c.other_or-other.ensures, c.loop-k.invariant.1))
+
+pub returns : goal.returns
+returns c =
+    let ends : c.loop-k.k ≡ c.args.n = omega arith in
+    rw (c.loop-k.invariant.1, ends)
