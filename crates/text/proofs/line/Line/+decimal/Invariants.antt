@@ -1,0 +1,5 @@
+-- The measure is the number of digits.
+use Rattle.text.proofs.line.Line.+decimal.Given as goal
+
+abbrev pub decreases-decimal : goal.decreases-decimal
+decreases-decimal l = l.digits
