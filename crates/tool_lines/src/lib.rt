@@ -87,7 +87,7 @@ fn put_first(characters: [u8; 128], n: u8, line: &mut [u8])
     ensures { line.new ≡ take n characters ++ drop (length (take n characters)) line.old }
 {
     let end = line::at_most(n) as usize;
-    bytes::copy(&characters[..end], line);
+    line[..end].copy_from_slice(&characters[..end]);
 }
 
 // A line's characters to the start of the lent buffer.

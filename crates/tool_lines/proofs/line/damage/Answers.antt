@@ -1,0 +1,8 @@
+use Rattle.tool_lines.proofs.line.damage.Reads as reads
+use Rattle.tool_lines.proofs.line.damage.Lts as lts
+use Rattle.steps.proofs.choose.Reads as choose-reads
+use Rattle.tool_lines.proofs.line.damage.Goals as goal
+
+-- src/line.rt:51:1
+pub returns : goal.returns
+returns c = rw (c.choose-3.ensures, c.choose-2.ensures, c.choose.ensures)
