@@ -1,0 +1,6 @@
+use mathlib.Core.Path.{refl}
+use Rattle.claims_polling.proofs.Spaced.{spaced}
+use Rattle.claims_polling.proofs.spacing.Goals as goal
+
+pub returns : goal.returns
+returns c = (refl, spaced)
