@@ -3,10 +3,9 @@ use Rattle.claims_lines.proofs.Marked.{as_marked_holds}
 use Rattle.claims_lines.proofs.Lines.{from_wire_holds, once}
 use Rattle.claims_lines.proofs.Handing.{all_reported_holds, handed_over_holds}
 use Rattle.claims_lines.proofs.Recorded.{met}
-use Rattle.claims_lines.proofs.provenance.Statement.{statement}
-use Rattle.claims_lines.proofs.provenance.Tie as tie
+use Rattle.claims_lines.proofs.provenance.Goals as goal
 
-returns : tie.Need-returns
+pub returns : goal.returns
 returns c = (
   refl,
   record {
@@ -18,6 +17,3 @@ returns c = (
   },
   met,
 )
-
-pub provenance-spec : {M : Type 1} → statement M
-provenance-spec = tie.close (tie.spec returns)

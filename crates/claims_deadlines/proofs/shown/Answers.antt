@@ -5,10 +5,9 @@ use Rattle.claims_deadlines.proofs.Polling.{served, polled, polled_kept_holds}
 use Rattle.claims_deadlines.proofs.Ruled.{kept}
 use Rattle.claims_deadlines.proofs.Replaying.{in_time_holds, replay_served_holds}
 use Rattle.claims_deadlines.proofs.Reaching.{any_8, any_9, still_8, still_9, fair}
-use Rattle.claims_deadlines.proofs.shown.Statement.{statement}
-use Rattle.claims_deadlines.proofs.shown.Tie as tie
+use Rattle.claims_deadlines.proofs.shown.Goals as goal
 
-returns : tie.Need-returns
+pub returns : goal.returns
 returns c = (
   refl,
   record {
@@ -27,6 +26,3 @@ returns c = (
     fair_reached = fair;
   },
 )
-
-pub shown-spec : {M : Type 1} → statement M
-shown-spec = tie.close (tie.spec returns)

@@ -1,10 +1,9 @@
 use mathlib.Core.Path.{refl}
 use Rattle.claims_schedule.proofs.Polls.{polls_on_time}
 use Rattle.claims_schedule.proofs.Stops.{reads, writes, others, call_refusals}
-use Rattle.claims_schedule.proofs.shown.Statement.{statement}
-use Rattle.claims_schedule.proofs.shown.Tie as tie
+use Rattle.claims_schedule.proofs.shown.Goals as goal
 
-returns : tie.Need-returns
+pub returns : goal.returns
 returns c = (
   refl,
   record {
@@ -15,6 +14,3 @@ returns c = (
     call_refusals = call_refusals;
   },
 )
-
-pub shown-spec : {M : Type 1} → statement M
-shown-spec = tie.close (tie.spec returns)
