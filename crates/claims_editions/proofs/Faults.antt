@@ -206,7 +206,7 @@ module _ (ps : List Record) (k : Kept) (g : Running ps k) (longer : ℕ) where
             let long : length (0x22 ∷ w.rest) ≡ count = sym (ap (λ (l : List ℕ). length l) w.is) ∙ seen_length s in
             let short : length (0x22 ∷ w.rest) < 3 = omega (arith, long, s, lacks) in
             refuses_at s (turned Cut ps seen (rw w.is (withdrawal_cut w.rest short)) (λ on. refl));
-        past_its_end = λ full past. refusing (past_its_end full past);
+        past_end = λ full past. refusing (past_its_end full past);
       }
 
 pub first_fault : FirstFault

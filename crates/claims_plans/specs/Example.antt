@@ -10,7 +10,7 @@ use Rattle.qsm.specs.declared.event.Event.TheVariants.{Hold}
 use Rattle.qsm.specs.declared.event.Event.TheVariants as event
 use Rattle.tool_plan.specs.Loading.{writing}
 use Rattle.tool_plan.specs.Running.{played}
-use Rattle.tool_plan.specs.Example.{by_hand, set_up_holds}
+use Rattle.tool_plan.specs.Example.{by_hand, set_up}
 use Rattle.claims_plans.specs.Watching.{Watched}
 use Rattle.claims_plans.specs.Standing.{Laid}
 use Rattle.claims_plans.specs.Converter.{Wired, Parked}
@@ -20,7 +20,7 @@ abbrev pub almost : Module
 almost =
     played
     (writing 2 0x1C 0x000F ∷ writing 1 0x140 0x49 ∷ writing 2 0x120 0x0ABC ∷ writing 1 0x14F 0x83 ∷ writing 2 0x13E 0x005A ∷ [])
-    set_up_holds
+    set_up
 
 abbrev pub begun : Module
 begun = (does almost (event.Access (Write true 4 0x18 0xB1048404))).state

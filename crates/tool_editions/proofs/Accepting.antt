@@ -1,6 +1,5 @@
 -- The records of a buffer that are in order, one by one. Assumes nothing.
 use mathlib.Core.Path.{◌≡◌, refl, sym, ap, ◌∙◌}
-use mathlib.Core.Logic.{inl, inr}
 use mathlib.Core.Bool.{Bool, true, false, cond, not, ◌&&◌}
 use mathlib.Core.List.{List, [], ◌∷◌, ◌++◌, append_assoc, append-nil}
 use Prim.Native.Nat.{ℕ, zero, suc, ◌+◌, ◌-◌, ◌<◌, ◌≤◌}
@@ -9,8 +8,6 @@ use native.Mathlib.Nat.{zero-add}
 use lib.Dec.{eqb, ltb, leb}
 use lib.ListN.{length, take, drop, length-drop, length-append, drop_of_length-le}
 use lib.Seq.{drop-drop}
-use types.Run.{OneOf}
-use denote.Enum.Declared.{tag_of}
 use borrow.Author.Tests.{ne_eqb, ltb-true}
 use Rattle.tool_editions.specs.Records.{size_of, parsed, first}
 use Rattle.tool_editions.specs.Rules.{latest, last_after, last_from, unmodelled, ranked, judge, refusal_of}
@@ -21,7 +18,6 @@ use Rattle.tool_editions.specs.declared.records.Record.{Record}
 use Rattle.tool_editions.specs.declared.records.Record.TheVariants.{Added, Withdrawn}
 use Rattle.tool_editions.specs.declared.records.Parsed.{Parsed}
 use Rattle.tool_editions.specs.declared.records.Parsed.TheVariants.{Whole, Unknown, Cut}
-use Rattle.tool_editions.specs.contracts.records.Parsed as P
 use Rattle.tool_editions.proofs.Shapes.{size_positive}
 use Rattle.tool_editions.proofs.Walking.{one_less, here, fits, next}
 
@@ -95,14 +91,13 @@ module _ (v : List ℕ) {last count at : ℕ} (g : Going v last count at) where
         let some : length (drop at v) ≡ 0 → ⊥ = λ z. omega (arith, length-drop at v, z) in
         rw (ne_eqb (length (drop at v)) 0 some, here v at p-is, one_less k)
 
-    broken : (on : List Record → List ℕ → Reading) (rs : List Record) (t : List ℕ) (q : Parsed) → OneOf (1 ∷ 2 ∷ []) (tag_of P.the_type q)
+    broken : (on : List Record → List ℕ → Reading) (rs : List Record) (t : List ℕ) (q : Parsed) → ((r : Record) → q ≡ Whole r → ⊥)
         → turn on rs t q ≡ refuses (broken_by q)
-    broken on rs t (Whole r) (inl h) = absurd (omega arith)
-    broken on rs t (Whole r) (inr h) = absurd (omega arith)
+    broken on rs t (Whole r) h = absurd (h r refl)
     broken on rs t Unknown h = refl
     broken on rs t Cut h = refl
 
-    pub at_broken : OneOf (1 ∷ 2 ∷ []) (tag_of P.the_type p) → {h : Held} → h ≡ Refused (broken_by p) → h ≡ held (read_all v)
+    pub at_broken : ((r : Record) → p ≡ Whole r → ⊥) → {h : Held} → h ≡ Refused (broken_by p) → h ≡ held (read_all v)
     at_broken keys h-is =
         h-is ∙ sym (ap held (g.going ∙ unroll g.fuel g.enough ∙ broken (read_for (g.fuel - 1)) g.before (drop at v) p keys))
 

@@ -10,7 +10,7 @@ use borrow.Author.Tests.{eqb-true, eqb-false, eq-eqb, ne_eqb, leb-true, leb-fals
 use Rattle.tool_editions.specs.Records.{size_of}
 use Rattle.tool_editions.specs.Rules.{given, missing, latest_from, last_from, unmodelled, refusal_of, latest}
 use Rattle.tool_editions.specs.Contents.{Reading, holds, refuses, contents}
-use Rattle.tool_editions.specs.Editions.{asked, asked_by, newest}
+use Rattle.tool_editions.specs.Editions.{asked, asked_by}
 use Rattle.tool_editions.specs.Laws.{Kept, answer, after, after_all, Words, Fits, Keeps, GivenBack, NotGiven, NewestIsLargest, OnlyItsRecord, Rising}
 use Rattle.tool_editions.specs.declared.Given.{Given}
 use Rattle.tool_editions.specs.declared.records.Edition.{Edition}

@@ -1,5 +1,5 @@
 -- The example computes, through the module's own writes. Assumes nothing.
-use mathlib.Core.Path.{◌≡◌, refl}
+use mathlib.Core.Path.{refl}
 use Rattle.steps.specs.Iterate.{iterate}
 use Rattle.sci.specs.model.Status.{has, fall}
 use Rattle.sci.specs.model.Serial.{wrote_sccr0, wrote_sccr1, sccr0_guarded, sccr1_guarded}

@@ -2,7 +2,7 @@
 use mathlib.Core.Path.{◌≡◌, refl, ◌∙◌}
 use mathlib.Core.Bool.{Bool, true, false, cond}
 use mathlib.Core.List.{List, ◌++◌}
-use Prim.Native.Nat.{ℕ, ◌+◌, ◌<◌, ◌≤◌}
+use Prim.Native.Nat.{ℕ, ◌<◌, ◌≤◌}
 use native.Mathlib.Omega.{arith}
 use lib.Dec.{eqb, ltb}
 use lib.ListN.{length, get_or, length-append, get_or-append}
@@ -10,7 +10,6 @@ use borrow.Author.Tests.{eqb-true, ltb-false, ne_eqb, le-ltb}
 use Rattle.tool_editions.specs.Records.{size_of, word_at, edition_at, parsed}
 use Rattle.tool_editions.specs.declared.records.Record.{Record}
 use Rattle.tool_editions.specs.declared.records.Record.TheVariants.{Added, Withdrawn}
-use Rattle.tool_editions.specs.declared.records.Parsed.{Parsed}
 use Rattle.tool_editions.specs.declared.records.Parsed.TheVariants.{Whole, Unknown, Cut}
 
 -- The record at the start of t: its kind and its bytes are there.

@@ -1,21 +1,17 @@
 -- The walks over so many records of a buffer: what each turn makes of the rest. Assumes nothing.
 use mathlib.Core.Path.{◌≡◌, refl, sym, ap, ◌∙◌}
-use mathlib.Core.Logic.{inl, inr}
 use mathlib.Core.Bool.{Bool, true, false}
 use mathlib.Core.List.{List, [], ◌∷◌}
 use Prim.Native.Nat.{ℕ, zero, suc, ◌+◌, ◌-◌, ◌<◌, ◌≤◌}
 use native.Mathlib.Omega.{arith}
 use lib.ListN.{length, take, drop, length-drop}
 use lib.Seq.{take_all, drop-drop}
-use types.Run.{OneOf}
-use denote.Enum.Declared.{tag_of}
 use Rattle.tool_editions.specs.Records.{number_of, size_of, parsed, followed, first}
 use Rattle.tool_editions.specs.Rules.{withdraws, withdrawn, later, latest_from}
 use Rattle.tool_editions.specs.declared.Given.{Given}
 use Rattle.tool_editions.specs.declared.records.Record.{Record}
 use Rattle.tool_editions.specs.declared.records.Parsed.{Parsed}
 use Rattle.tool_editions.specs.declared.records.Parsed.TheVariants.{Whole, Unknown, Cut}
-use Rattle.tool_editions.specs.contracts.records.Parsed as P
 use Rattle.tool_editions.proofs.Shapes.{shaped, size_within}
 
 -- What is lent from a place on is the rest.
@@ -25,9 +21,8 @@ rest v at = take_all (length v - at) (drop at v) (simp length-drop (omega arith)
 pub one_less : (k : ℕ) → suc k - 1 ≡ k
 one_less k = omega arith
 
-none_follows : (on : List ℕ → List Record) (t : List ℕ) (p : Parsed) → OneOf (1 ∷ 2 ∷ []) (tag_of P.the_type p) → followed on t p ≡ []
-none_follows on t (Whole r) (inl h) = absurd (omega arith)
-none_follows on t (Whole r) (inr h) = absurd (omega arith)
+none_follows : (on : List ℕ → List Record) (t : List ℕ) (p : Parsed) → ((r : Record) → p ≡ Whole r → ⊥) → followed on t p ≡ []
+none_follows on t (Whole r) h = absurd (h r refl)
 none_follows on t Unknown h = refl
 none_follows on t Cut h = refl
 
@@ -36,7 +31,7 @@ module _ (v : List ℕ) (at : ℕ) {p : Parsed} (p-is : p ≡ parsed (take (leng
   pub here : parsed (drop at v) ≡ p
   here = ap parsed (sym (rest v at)) ∙ sym p-is
 
-  pub stops : OneOf (1 ∷ 2 ∷ []) (tag_of P.the_type p) → (left : ℕ) → first left (drop at v) ≡ []
+  pub stops : ((r : Record) → p ≡ Whole r → ⊥) → (left : ℕ) → first left (drop at v) ≡ []
   unfolding first
   stops keys zero = refl
   stops keys (suc k) = rw here (none_follows (first k) (drop at v) p keys)

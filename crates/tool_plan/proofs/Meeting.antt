@@ -18,7 +18,7 @@ use Rattle.qsm.specs.model.Event.{writes, does}
 use Rattle.tool_plan.specs.Check.{each, proper, clock_before, accepts}
 use Rattle.tool_plan.specs.Quickest.{commands_of, other_count, proposal, if_accepted}
 use Rattle.tool_plan.specs.Running.{Ready, Counts, NoFault}
-use Rattle.tool_plan.specs.Example.{by_hand, set_up_holds, hold, Example}
+use Rattle.tool_plan.specs.Example.{by_hand, set_up, hold, Example}
 
 all_zero : (n i : ℕ) → get_or {A = ℕ} (replicate n 0) i 0 ≡ 0
 all_zero zero i = refl
@@ -30,7 +30,7 @@ command_small zero = omega arith
 command_small (suc zero) = omega arith
 command_small (suc (suc i)) = omega (arith, all_zero 14 i)
 
-ready : Ready set_up_holds
+ready : Ready set_up
 unfolding does writes decide_stored admitted in_map stored_by stored store iterate decode put put_own unmodelled guarded own_unmodelled reset_module reset
 ready =
     record {
@@ -44,13 +44,13 @@ ready =
       bytes = λ i. omega (arith, all_zero 16 i);
     }
 
-no_fault : NoFault set_up_holds (hold ∷ [])
+no_fault : NoFault set_up (hold ∷ [])
 unfolding does writes decide_stored admitted in_map stored_by stored store iterate decode put put_own unmodelled guarded own_unmodelled reset_module reset
 no_fault = (refl, tt)
 
-counts : Counts set_up_holds (hold ∷ [])
+counts : Counts set_up (hold ∷ [])
 unfolding does writes decide_stored admitted in_map stored_by stored store iterate decode put put_own unmodelled guarded own_unmodelled reset_module reset
-counts = let none : set_up_holds.clock ≡ 0 = refl in omega (arith, none)
+counts = let none : set_up.clock ≡ 0 = refl in omega (arith, none)
 
 pub example : Example
 unfolding each proper clock_before accepts commands_of other_count proposal if_accepted bits_of pre_delay delay_after

@@ -34,8 +34,8 @@ by_hand =
     }
 
 -- Since a reset: MOSI, SCK and the PCS assigned outputs.
-abbrev pub set_up_holds : Module
-set_up_holds = played (writing 2 0x16 0x7A7E ∷ []) reset_module
+abbrev pub set_up : Module
+set_up = played (writing 2 0x16 0x7A7E ∷ []) reset_module
 
 abbrev pub hold : Span
 hold = record { pins = 0; rxd = true; clocks = 177 }
@@ -46,6 +46,6 @@ pub record Example : Type 0 where
   pub planned_at : ((planned points 95).refusal ≡ 0) × ((planned points 95).plan.clock ≡ 95)
   pub no_plan_holds : planned points 94 ≡ no_plan
   pub sized : Sized by_hand
-  pub ready : Ready set_up_holds
-  pub counts : Counts set_up_holds (hold ∷ [])
-  pub no_fault : NoFault set_up_holds (hold ∷ [])
+  pub ready : Ready set_up
+  pub counts : Counts set_up (hold ∷ [])
+  pub no_fault : NoFault set_up (hold ∷ [])

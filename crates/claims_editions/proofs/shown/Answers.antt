@@ -2,10 +2,9 @@ use mathlib.Core.Path.{refl}
 use Rattle.claims_editions.proofs.History.{by_history}
 use Rattle.claims_editions.proofs.Faults.{first_fault}
 use Rattle.claims_editions.proofs.Cases.{cases}
-use Rattle.claims_editions.proofs.shown.Statement.{statement}
-use Rattle.claims_editions.proofs.shown.Tie as tie
+use Rattle.claims_editions.proofs.shown.Goals as goal
 
-returns : tie.Need-returns
+pub returns : goal.returns
 returns c = (
   refl,
   record {
@@ -14,6 +13,3 @@ returns c = (
     cases = cases;
   },
 )
-
-pub shown-spec : {M : Type 1} → statement M
-shown-spec = tie.close (tie.spec returns)

@@ -3,10 +3,9 @@ use Rattle.tool_editions.proofs.Calls.{refusal_changes_nothing}
 use Rattle.tool_editions.proofs.Keeping.{given_back, not_given, newest_is_largest, only_its_record, rising}
 use Rattle.tool_editions.proofs.Made.{made_in_order}
 use Rattle.tool_editions.proofs.Meeting.{example}
-use Rattle.tool_editions.proofs.claims.shown.Statement.{statement}
-use Rattle.tool_editions.proofs.claims.shown.Tie as tie
+use Rattle.tool_editions.proofs.claims.shown.Goals as goal
 
-returns : tie.Need-returns
+pub returns : goal.returns
 returns c = (
   refl,
   record {
@@ -20,6 +19,3 @@ returns c = (
     example = example;
   },
 )
-
-pub shown-spec : {M : Type 1} → statement M
-shown-spec = tie.close (tie.spec returns)
