@@ -33,7 +33,7 @@ use Rattle.trace.specs.Trace.{reader}
 use Rattle.trace.specs.Play.{Outcome, answered, followed, stopped, play}
 use Rattle.trace.proofs.Playing.{one_on, play_none}
 use Rattle.claims_refusals.proofs.Limits.{reset_free, access_free}
-use Rattle.claims_refusals.specs.Marked.{trace, answers, K12, Marked}
+use Rattle.claims_refusals.specs.Marked.{trace, K12, Marked}
 
 k1 : K1 ≡ true
 unfolding has raise raise_if fall fall_if mark_seen fall_seen start_bit data_bit stop_bit framed fixed outcome raised entered status_after receiver_after received sent sampled wrote_sccr1 samples

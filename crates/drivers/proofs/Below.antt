@@ -1,7 +1,6 @@
 -- The module below never answers 9, and its reset is `reset_module`. Assumes nothing.
 use mathlib.Core.Path.{◌≡◌, refl}
 use mathlib.Core.Bool.{Bool, true, false, cond}
-use Prim.Native.Nat.{ℕ}
 use lib.Dec.{eqb}
 use Rattle.qsm.specs.model.State.{reset_module}
 use Rattle.qsm.specs.model.Decision.{permits, refusal_of, decide_read, decide_stored, stored_by}

@@ -1,6 +1,6 @@
 -- What is not refused 9, resets and claims; and all laws together. Assumes nothing.
 use mathlib.Core.Path.{◌≡◌, refl, sym, ap, ◌∙◌}
-use mathlib.Core.Bool.{Bool, true, false, cond, not, ◌||◌}
+use mathlib.Core.Bool.{Bool, true, false, cond}
 use Prim.Native.Nat.{ℕ}
 use lib.Dec.{eqb}
 use borrow.Author.Tests.{eqb-true}
@@ -12,7 +12,7 @@ use Rattle.qsm.specs.declared.event.Event as below
 use Rattle.qsm.specs.declared.event.Event.TheVariants as event
 use Rattle.drivers.specs.State.{other, number_of, holds, proper, begun}
 use Rattle.drivers.specs.Event.{told, played, with_split, with_holder, fixed, restarted, does, step}
-use Rattle.drivers.specs.Claims.{nine, OwnStep, Kept, Demand2, Resets, Claiming, Claims}
+use Rattle.drivers.specs.Claims.{nine, OwnStep, Kept, Demand2, Claims}
 use Rattle.drivers.specs.declared.state.Driver.{Driver}
 use Rattle.drivers.specs.declared.state.Driver.TheVariants.{Axis, Spindle}
 use Rattle.drivers.specs.declared.state.Shared.{Shared}

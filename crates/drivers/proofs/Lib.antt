@@ -1,5 +1,4 @@
 pub mod Admitting
-pub mod Entries
 pub mod Below
 pub mod Reached
 pub mod Refusing

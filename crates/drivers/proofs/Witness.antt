@@ -11,7 +11,6 @@ use Rattle.qsm.specs.model.Word.{put, unmodelled, guarded}
 use Rattle.qsm.specs.model.Access.{store, stored}
 use Rattle.qsm.specs.model.Decision.{admitted, decide_read, stored_by, decide_stored}
 use Rattle.qsm.specs.model.Event.{answer_of, after_read, refused, resets}
-use Rattle.qsm.specs.model.Event as model
 use Rattle.qsm.specs.model.Event.{reads, writes, does, step}
 use Rattle.drivers.specs.State.{new_shared}
 use Rattle.drivers.specs.Reach as reach

@@ -10,7 +10,7 @@ use Rattle.qsm.specs.declared.event.Access as access
 use Rattle.qsm.specs.declared.event.Access.TheVariants.{Read, Write}
 use Rattle.qsm.specs.declared.event.Event as below
 use Rattle.qsm.specs.declared.event.Event.TheVariants as event
-use Rattle.drivers.specs.State.{other, number_of, holds, proper, begun, owns}
+use Rattle.drivers.specs.State.{other, holds, proper, begun, owns}
 use Rattle.drivers.specs.Reach.{admits, fit}
 use Rattle.drivers.specs.Event.{step}
 use Rattle.drivers.specs.declared.state.Driver.{Driver}

@@ -1,5 +1,5 @@
 -- The laws are about something: a history of a host and two drivers in which each clause of refusal 9 is met, and what is beside it is let.
-use Rattle.std.specs.Prelude.{◌≡◌, Bool, true, false, List, [], ◌∷◌, ℕ}
+use Rattle.std.specs.Prelude.{◌≡◌, true, false, List, [], ◌∷◌, ℕ}
 use Rattle.qsm.specs.declared.event.Access.TheVariants.{Read, Write}
 use Rattle.drivers.specs.State.{new_shared}
 use Rattle.drivers.specs.Event.{step}

@@ -1,0 +1,4 @@
+use Rattle.drivers.proofs.calls.read.Goals as goal
+
+pub returns : goal.returns
+returns c = rw (c.step.ensures, c.driver_of.ensures)

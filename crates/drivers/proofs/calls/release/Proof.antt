@@ -1,9 +1,0 @@
-use borrow.Author.Rules.{rules}
-use Rattle.drivers.proofs.calls.release.Statement.{statement}
-use Rattle.drivers.proofs.calls.release.Tie as tie
-
-returns : tie.Need-returns
-returns c = rw (c.step.ensures, c.before.driver-of.ensures)
-
-pub release_spec : {M : Type 1} → statement M
-release_spec = tie.close (tie.spec (λ c κs. search rules) (λ c κs. search rules) returns)
