@@ -6,7 +6,7 @@ help:
 	@sed -n 's/^\([a-z]*\):.*## /    make \1 \t/p' $(firstword $(MAKEFILE_LIST)) | expand -t 20
 
 first: ## prove and build replay and show (minutes, the first time), play a small trace and print its log
-	rt check replay show
+	tools/build replay show
 	target/bin/replay crates/replay/data/trace.bin | target/bin/show
 
 check: ## the gate: layout, every proof, every edit that must be refused, every program, the tests (an hour of CPU time)

@@ -5,7 +5,7 @@
  *   - Register settings by edition, qsm_editions_add and three more; plans of the queue, qsm_plan and three more.
  *   - A module that two drivers share, qsm_drivers_new and eight more.
  *
- * For C11 and C++11 on x86-64. The archive is made by `rt staticlib qsm_c`; link target/staticlib/libqsm_c.a.
+ * For C11 and C++11 on x86-64. The archive is made by `tools/build qsm_c`; link target/staticlib/libqsm_c.a.
  *
  *     struct qsm card = qsm_new();
  *     qsm_write(&card, true, 2, QSM_SCCR1, QSM_TE | QSM_RE);

@@ -11,7 +11,7 @@ fn main() {
     if !archive.is_file() {
         println!(
             "cargo::error=the proved library, target/staticlib/libqsm_c.a, is not there: make it by `examples/archive` \
-             (or `rt staticlib qsm_c`), then build again"
+             (or `tools/build qsm_c`), then build again"
         );
         return;
     }
