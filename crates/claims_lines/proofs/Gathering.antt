@@ -177,10 +177,10 @@ module _ (l : Line) (a : Account) (m : Match l a) (w : ℕ) (d : Damage) where
   put_agrees true true =
       record {
         match = touched_match true (following (caused l (damaged d))) (counted (closing a d)) (following_match l a m (w % 128) d);
-        told = ended_report l a m (w % 128) d _ refl;
+        told = ended_report l a m (w % 128) d (caused (following (caused l (damaged d))) overrun) refl;
       }
   put_agrees false true =
-      record { match = following_match l a m (w % 128) d; told = ended_report l a m (w % 128) d _ refl }
+      record { match = following_match l a m (w % 128) d; told = ended_report l a m (w % 128) d (following (caused l (damaged d))) refl }
   put_agrees true false =
       record {
         match = touched_match true (typed (caused l (damaged d)) (w % 128)) (growing a (w % 128) d) (typed_match l a m (w % 128) d);
