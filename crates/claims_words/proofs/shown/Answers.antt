@@ -1,10 +1,9 @@
 use mathlib.Core.Path.{refl}
 use Rattle.claims_words.proofs.Events.{as_marked_holds, event_told, figure_told, noisy_word}
 use Rattle.claims_words.proofs.Records.{figures_told, by_record, all_told}
-use Rattle.claims_words.proofs.shown.Statement.{statement}
-use Rattle.claims_words.proofs.shown.Tie as tie
+use Rattle.claims_words.proofs.shown.Goals as goal
 
-returns : tie.Need-returns
+pub returns : goal.returns
 returns c = (
   refl,
   record {
@@ -17,6 +16,3 @@ returns c = (
     noisy_word = noisy_word;
   },
 )
-
-pub shown-spec : {M : Type 1} → statement M
-shown-spec = tie.close (tie.spec returns)
