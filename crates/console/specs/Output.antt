@@ -1,5 +1,5 @@
 -- An output: what was given to it is what the system took of it, then what waits, then, once a write has failed, what is lost.
-use Rattle.std.specs.Prelude.{◌≡◌, Bool, true, false, List, [], ◌++◌, ℕ, ◌+◌, ◌≤◌, ℤ, length, take}
+use Rattle.std.specs.Prelude.{◌≡◌, Bool, true, false, List, [], ◌++◌, ℕ, ◌+◌, ◌≤◌, length, take}
 use Rattle.console.specs.declared.output.Out.{Out}
 use Rattle.console.specs.declared.output.Handed.{Handed}
 
@@ -12,11 +12,11 @@ pub record Hands (bytes : List ℕ) (h : Handed) : Type 0 where
   pub most : h.taken ≤ length bytes
   pub all : h.failed ≡ false → h.taken ≡ length bytes
 
-abbrev pub fresh : ℤ → Bool → Out
-fresh fd eager = record { fd = fd; eager = eager; waits = 0; failed = false }
+abbrev pub fresh : Bool → Out
+fresh eager = record { eager = eager; waits = 0; failed = false }
 
 abbrev pub after : Out → Handed → Out
-after o h = record { fd = o.fd; eager = o.eager; waits = 0; failed = h.failed }
+after o h = record { eager = o.eager; waits = 0; failed = h.failed }
 
 -- The bytes of the buffer that wait to be handed on.
 abbrev pub waiting : Out → List ℕ → List ℕ
@@ -34,7 +34,7 @@ pub record Gives (o : Out) (buf : List ℕ) (text : List ℕ) (o' : Out) (buf' :
   -- After a failure nothing more is handed on, and it stays one.
   pub stopped : o.failed ≡ true → (handed ≡ []) × ((o' ≡ o) × (buf' ≡ buf))
   -- It stays the same output.
-  pub same : (o'.fd ≡ o.fd) × (o'.eager ≡ o.eager)
+  pub same : o'.eager ≡ o.eager
   pub room : length buf' ≡ length buf
 
 -- Once all is handed on, nothing waits.
@@ -47,4 +47,4 @@ Fits o buf text = o.waits + length text ≤ length buf
 
 -- A text of so many bytes is put there.
 abbrev pub put_behind : Out → ℕ → Out
-put_behind o n = record { fd = o.fd; eager = o.eager; waits = o.waits + n; failed = o.failed }
+put_behind o n = record { eager = o.eager; waits = o.waits + n; failed = o.failed }

@@ -2,12 +2,13 @@
 ghost use Rattle.io.specs.Counts.{IsPrefixLen};
 ghost use Rattle.console.specs.Input.{Reads};
 
+use files::origin::Origin;
 use files::pieces::{carry, counted, fill};
+use files::system::System;
 
 // Where an input stands.
 #[derive(Clone, Copy)]
 pub struct Source {
-    pub fd: i32,
     // It has places, as a plain file: a read of it does not wait for somebody.
     pub plain: bool,
     // Bytes in the buffer.
@@ -21,10 +22,9 @@ pub struct Source {
 
 impl Source {
     // At the start of an input, with nothing read.
-    pub fn of(fd: i32) -> Source {
+    pub fn of(from: &Origin) -> Source {
         Source {
-            fd,
-            plain: libc::lseek(fd, 0, libc::SEEK_CUR) >= 0,
+            plain: from.is_plain(),
             total: 0,
             place: 0,
             ended: false,
@@ -35,12 +35,18 @@ impl Source {
 
 // Carries the bytes of the buffer from a place on to its start, and reads once behind them.
 // Ruled out: a byte that is left lost or overwritten; more bytes reported than the buffer has.
-pub fn more(source: Source, buf: &mut [u8], at: usize) -> Source
+pub fn more<R: System>(
+    rt: &R,
+    from: &Origin,
+    source: Source,
+    buf: &mut [u8],
+    at: usize,
+) -> Source
     ensures prefix_len { IsPrefixLen result.total buf.new }
     ensures reads { Reads source buf.old at result buf.new }
 {
     let have = carry(buf, at, source.total);
-    let f = fill(source.fd, buf, have, source.ended);
+    let f = fill(rt, from, buf, have, source.ended);
     let mut now = source;
     now.total = f.total;
     now.place = counted(source.place, at);

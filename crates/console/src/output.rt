@@ -1,15 +1,16 @@
-// What a command writes: bytes are collected in a buffer that it lends, and handed to the system when the buffer is full. The first error ends it:
+// What a command writes: bytes are collected in a buffer that it lends, and handed to a sink, which is lent too, when the buffer is full. The first error ends it:
 // nothing is written after it.
 ghost use Rattle.std.specs.Prelude.{◌≡◌, false, [], take};
 ghost use Rattle.console.specs.Output.{Takes, Hands, Gives, Cleared, Fits, fresh, after};
 
 use files::pieces::least;
+use files::system::Sink;
+use std::io::ErrorKind;
 use text::line::Line;
 
 // Where an output stands.
 #[derive(Clone, Copy)]
 pub struct Out {
-    pub fd: i32,
     // Each text is handed on at once, as to a terminal.
     pub eager: bool,
     // Bytes that wait at the start of the buffer.
@@ -26,31 +27,29 @@ struct Handed {
 }
 
 // One write. A call that a signal interrupts has taken nothing and failed in nothing.
-fn once(fd: i32, bytes: &[u8]) -> Handed
+fn once(to: &Sink, bytes: &[u8]) -> Handed
     ensures { Takes bytes.now result }
 {
-    let got = libc::write(fd, bytes);
-    if got < 0 {
-        return Handed {
+    match to.write_some(bytes) {
+        Ok(n) => Handed {
+            taken: n,
+            failed: n == 0,
+        },
+        Err(e) => Handed {
             taken: 0,
-            failed: os::errno() != libc::EINTR,
-        };
-    }
-    let n = io::count(got, bytes);
-    Handed {
-        taken: n,
-        failed: n == 0,
+            failed: e.kind() != ErrorKind::Interrupted,
+        },
     }
 }
 
 // Writes until all is taken or a write fails.
-fn hand(fd: i32, bytes: &[u8]) -> Handed
+fn hand(to: &Sink, bytes: &[u8]) -> Handed
     ensures { Hands bytes.now result }
 {
     let mut at = 0;
     let mut turns = u64::MAX;
     while at < bytes.len() {
-        let h = once(fd, &bytes[at..]);
+        let h = once(to, &bytes[at..]);
         at += h.taken;
         if h.failed {
             return Handed {
@@ -82,30 +81,29 @@ impl Out {
     }
 
     // Ruled out: an output that has failed; bytes that wait.
-    pub fn to(fd: i32, eager: bool) -> Out
-        ensures { result ≡ fresh fd eager }
+    pub fn to(eager: bool) -> Out
+        ensures { result ≡ fresh eager }
     {
         Out {
-            fd,
             eager,
             waits: 0,
             failed: false,
         }
     }
 
-    // Standard output, where a terminal has each text at once.
+    // A standard stream, where a terminal has each text at once.
     // Ruled out: an output that has failed; bytes that wait.
-    pub fn standard() -> Out
+    pub fn standard(to: &Sink) -> Out
         ensures waits_value { result.waits ≡ 0 }
         ensures failed_value { result.failed ≡ false }
     {
-        Out::to(libc::STDOUT_FILENO, libc::isatty(libc::STDOUT_FILENO) != 0)
+        Out::to(to.is_terminal())
     }
 }
 
 // Hands on what waits.
 // Ruled out: a byte written twice or left out; a write after a failed one; a byte that still waits.
-pub fn flush(out: Out, buf: &[u8]) -> Out
+pub fn flush(to: &Sink, out: Out, buf: &[u8]) -> Out
     ensures gives { Gives out buf.now [] result buf.now }
     ensures cleared { Cleared out result }
 {
@@ -113,7 +111,7 @@ pub fn flush(out: Out, buf: &[u8]) -> Out
         return out;
     }
     let n = least(out.waits, buf.len());
-    out.after(hand(out.fd, &buf[..n]))
+    out.after(hand(to, &buf[..n]))
 }
 
 // A text behind what waits, where there is room for it.
@@ -131,7 +129,7 @@ fn stored(out: Out, buf: &mut [u8], text: &[u8]) -> Out
 
 // A text behind what waits, which is handed on first where the buffer has no room for both. A text that is longer than the buffer is handed on
 // by itself.
-fn collect(out: Out, buf: &mut [u8], text: &[u8]) -> Out
+fn collect(to: &Sink, out: Out, buf: &mut [u8], text: &[u8]) -> Out
     requires { out.failed ≡ false }
     ensures { Gives out buf.old text.now result buf.new }
 {
@@ -141,45 +139,45 @@ fn collect(out: Out, buf: &mut [u8], text: &[u8]) -> Out
             return stored(out, buf, text);
         }
     }
-    let clear = flush(out, buf);
+    let clear = flush(to, out, buf);
     if clear.failed {
         return clear;
     }
     if text.len() <= buf.len() {
         return stored(clear, buf, text);
     }
-    clear.after(hand(clear.fd, text))
+    clear.after(hand(to, text))
 }
 
 // Gives a text to an output.
 // Ruled out: a byte written twice, out of order or left out; a write after a failed one.
-pub fn put(out: Out, buf: &mut [u8], text: &[u8]) -> Out
+pub fn put(to: &Sink, out: Out, buf: &mut [u8], text: &[u8]) -> Out
     ensures { Gives out buf.old text.now result buf.new }
 {
     if out.failed {
         return out;
     }
-    let given = collect(out, buf, text);
+    let given = collect(to, out, buf, text);
     if given.eager {
-        return flush(given, buf);
+        return flush(to, given, buf);
     }
     given
 }
 
 // Gives the first n bytes of a text, or all where there are fewer.
 // Ruled out: a byte behind them; one of them left out.
-pub fn put_first(out: Out, buf: &mut [u8], text: &[u8], n: usize) -> Out
+pub fn put_first(to: &Sink, out: Out, buf: &mut [u8], text: &[u8], n: usize) -> Out
     ensures { Gives out buf.old (take n text.now) result buf.new }
 {
     let some = least(n, text.len());
-    put(out, buf, &text[..some])
+    put(to, out, buf, &text[..some])
 }
 
 // Ruled out: a line cut short; the zeros behind it.
-pub fn put_line(out: Out, buf: &mut [u8], line: Line) -> Out
+pub fn put_line(to: &Sink, out: Out, buf: &mut [u8], line: Line) -> Out
     ensures { Gives out buf.old (take line.length line.bytes) result buf.new }
 {
     let n = line.length;
     let bytes = line.bytes;
-    put_first(out, buf, &bytes, n)
+    put_first(to, out, buf, &bytes, n)
 }

@@ -4,9 +4,13 @@ ghost use Rattle.io.specs.Counts.{IsPrefixLen};
 ghost use Rattle.files.specs.Words.{Expected};
 
 use crate::message::{fail, say, say_of};
+use crate::system::{Sink, System};
 use crate::version::print_version;
 use crate::words::{Word, is_option, kind};
-use libc::{STDERR_FILENO, STDOUT_FILENO};
+use std::env::FillError;
+
+// Standard error.
+const ERROR: i32 = 2;
 
 // Whether the program goes on, or something was wrong; whether its option is given and the second one, and how many words there are beside options.
 #[derive(Clone, Copy)]
@@ -30,15 +34,34 @@ struct Seen {
     words: usize,
 }
 
+// How many arguments the program was started with, its own name among them.
+pub fn count<R: System>(rt: &R) -> usize {
+    let mut none = [0u8; 1];
+    for i in 0..usize::MAX {
+        if let Err(FillError::NotPresent) = rt.arg(i, &mut none) {
+            return i;
+        }
+    }
+    usize::MAX
+}
+
+// Argument i at the start of a buffer, and its length; 0 where it is not there or too long.
+// Ruled out: a length beyond the buffer.
+pub fn argument<R: System>(rt: &R, i: usize, buf: &mut [u8]) -> usize
+    ensures { IsPrefixLen result buf.new }
+{
+    rt.arg(i, buf).unwrap_or(0)
+}
+
 // A word that is longer than any path counts as an empty one.
-fn kind_at(i: usize, option: &[u8], second: &[u8]) -> Word {
+fn kind_at<R: System>(rt: &R, i: usize, option: &[u8], second: &[u8]) -> Word {
     let mut word = io::buffer();
-    let n = os::arg(i, &mut word);
+    let n = argument(rt, i, &mut word);
     kind(&word[..n], b"--help", b"--version", option, second)
 }
 
-fn see(from: usize, option: &[u8], second: &[u8]) -> Seen {
-    let count = os::arg_count();
+fn see<R: System>(rt: &R, from: usize, option: &[u8], second: &[u8]) -> Seen {
+    let count = count(rt);
     let mut help = false;
     let mut version = false;
     let mut one = false;
@@ -47,7 +70,7 @@ fn see(from: usize, option: &[u8], second: &[u8]) -> Seen {
     let mut words = 0;
     let mut i = from;
     while i < count {
-        let w = kind_at(i, option, second);
+        let w = kind_at(rt, i, option, second);
         match w {
             Word::Help => help = true,
             Word::Version => version = true,
@@ -68,19 +91,19 @@ fn see(from: usize, option: &[u8], second: &[u8]) -> Seen {
     }
 }
 
-fn is_plain(i: usize) -> bool {
+fn is_plain<R: System>(rt: &R, i: usize) -> bool {
     let mut word = io::buffer();
-    let n = os::arg(i, &mut word);
+    let n = argument(rt, i, &mut word);
     !is_option(&word[..n])
 }
 
 // The place among the program's arguments of word k, numbered from 0 without options, from an argument on; past them where there is no such word.
-pub fn word_from(from: usize, k: usize) -> usize {
-    let count = os::arg_count();
+pub fn word_from<R: System>(rt: &R, from: usize, k: usize) -> usize {
+    let count = count(rt);
     let mut left = k;
     let mut i = from;
     while i < count {
-        if is_plain(i) {
+        if is_plain(rt, i) {
             if left == 0 {
                 return i;
             }
@@ -92,41 +115,41 @@ pub fn word_from(from: usize, k: usize) -> usize {
 }
 
 // The same from argument 1 on: a program's words.
-pub fn word_at(k: usize) -> usize {
-    word_from(1, k)
+pub fn word_at<R: System>(rt: &R, k: usize) -> usize {
+    word_from(rt, 1, k)
 }
 
 // Word k at the start of a buffer, and its length; 0 where it is not there or too long.
 // Ruled out: a length beyond the buffer.
-pub fn word(k: usize, buf: &mut [u8]) -> usize
+pub fn word<R: System>(rt: &R, k: usize, buf: &mut [u8]) -> usize
     ensures { IsPrefixLen result buf.new }
 {
-    os::arg(word_at(k), buf)
+    argument(rt, word_at(rt, k), buf)
 }
 
 // The same from an argument on.
 // Ruled out: a length beyond the buffer.
-pub fn named_word(from: usize, k: usize, buf: &mut [u8]) -> usize
+pub fn named_word<R: System>(rt: &R, from: usize, k: usize, buf: &mut [u8]) -> usize
     ensures { IsPrefixLen result buf.new }
 {
-    os::arg(word_from(from, k), buf)
+    argument(rt, word_from(rt, from, k), buf)
 }
 
-fn say_unknown(program: &[u8], i: usize) {
+fn say_unknown<R: System>(rt: &R, program: &[u8], i: usize) {
     let mut word = io::buffer();
-    let n = os::arg(i, &mut word);
+    let n = argument(rt, i, &mut word);
     say_of(program, b"unknown option ", &word[..n]);
 }
 
-fn refuse(program: &[u8], seen: Seen, least: usize, usage: &[u8]) {
+fn refuse<R: System>(rt: &R, program: &[u8], seen: Seen, least: usize, usage: &[u8]) {
     if seen.unknown > 0 {
-        say_unknown(program, seen.unknown);
+        say_unknown(rt, program, seen.unknown);
     } else if seen.words < least {
         say(program, b"too few arguments\n");
     } else {
         say(program, b"too many arguments\n");
     }
-    io::write_all(STDERR_FILENO, usage);
+    io::write_all(ERROR, usage);
 }
 
 fn stop(wrong: bool) -> Command
@@ -142,13 +165,14 @@ fn stop(wrong: bool) -> Command
 }
 
 // The usage and the help on standard output; whether they could not be written, which is said.
-fn print_help(program: &[u8], usage: &[u8], help: &[u8]) -> bool {
-    if io::write_all(STDOUT_FILENO, usage) {
-        if io::write_all(STDOUT_FILENO, help) {
+fn print_help<R: System>(rt: &R, program: &[u8], usage: &[u8], help: &[u8]) -> bool {
+    let output = Sink::output(rt);
+    if output.write_all(usage) {
+        if output.write_all(help) {
             return false;
         }
     }
-    fail(program, b"standard output");
+    fail(program, b"standard output", output.error());
     true
 }
 
@@ -156,7 +180,8 @@ fn print_help(program: &[u8], usage: &[u8], help: &[u8]) -> bool {
 // what is wrong is said, with the usage. --help writes the usage and the help, --version the program's name and version, and it does not go on. An
 // option that is empty is never given.
 // Ruled out: a program that goes on without a word that it needs; one that goes on with a word that it won't look at.
-pub fn read_from(
+pub fn read_from<R: System>(
+    rt: &R,
     from: usize,
     program: &[u8],
     option: &[u8],
@@ -168,24 +193,24 @@ pub fn read_from(
 ) -> Command
     ensures { Expected least most result.go result.words }
 {
-    let seen = see(from, option, second);
+    let seen = see(rt, from, option, second);
     let words = seen.words;
     if seen.help {
-        return stop(print_help(program, usage, help));
+        return stop(print_help(rt, program, usage, help));
     }
     if seen.version {
-        return stop(print_version(program));
+        return stop(print_version(rt, program));
     }
     if seen.unknown > 0 {
-        refuse(program, seen, least, usage);
+        refuse(rt, program, seen, least, usage);
         return stop(true);
     }
     if words < least {
-        refuse(program, seen, least, usage);
+        refuse(rt, program, seen, least, usage);
         return stop(true);
     }
     if words > most {
-        refuse(program, seen, least, usage);
+        refuse(rt, program, seen, least, usage);
         return stop(true);
     }
     Command {
@@ -199,7 +224,8 @@ pub fn read_from(
 
 // The same from argument 1 on: a program's command.
 // Ruled out: a program that goes on without a word that it needs; one that goes on with a word that it won't look at.
-pub fn read_two(
+pub fn read_two<R: System>(
+    rt: &R,
     program: &[u8],
     option: &[u8],
     second: &[u8],
@@ -210,12 +236,13 @@ pub fn read_two(
 ) -> Command
     ensures { Expected least most result.go result.words }
 {
-    read_from(1, program, option, second, least, most, usage, help)
+    read_from(rt, 1, program, option, second, least, most, usage, help)
 }
 
 // The same for a program with one option, or with none, which is empty.
 // Ruled out: a program that goes on without a word that it needs; one that goes on with a word that it won't look at.
-pub fn read(
+pub fn read<R: System>(
+    rt: &R,
     program: &[u8],
     option: &[u8],
     least: usize,
@@ -225,5 +252,5 @@ pub fn read(
 ) -> Command
     ensures { Expected least most result.go result.words }
 {
-    read_two(program, option, b"", least, most, usage, help)
+    read_two(rt, program, option, b"", least, most, usage, help)
 }

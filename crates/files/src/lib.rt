@@ -1,13 +1,15 @@
-// Files, arguments and messages, so that a program is a page. It is the one library here that rests on what the C library's functions are
-// assumed to do: what is read and written, no contract can say.
+// Files, arguments and messages, so that a program is a page. What the system gives and takes, no contract
+// can say.
 #![tactic(auto)]
 
 pub mod command;
 pub mod input;
 pub mod message;
+pub mod origin;
 pub mod output;
 pub mod pieces;
 pub mod progress;
+pub mod system;
 pub mod version;
 pub mod whole;
 pub mod words;

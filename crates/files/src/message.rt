@@ -1,34 +1,89 @@
 // What is said on standard error, behind the program's name.
-use crate::output::write_first;
-use libc::STDERR_FILENO;
+ghost use Rattle.std.specs.Prelude.{◌≤◌, length};
+
+use crate::output::first;
+use std::fmt;
+use std::fmt::Write;
+use std::io::Error;
+
+// Standard error.
+const ERROR: i32 = 2;
 
 fn begin(program: &[u8]) {
-    io::write_all(STDERR_FILENO, program);
-    io::write_all(STDERR_FILENO, b": ");
+    io::write_all(ERROR, program);
+    io::write_all(ERROR, b": ");
 }
 
 // A message, with its line's end.
 pub fn say(program: &[u8], text: &[u8]) {
     begin(program);
-    io::write_all(STDERR_FILENO, text);
+    io::write_all(ERROR, text);
 }
 
 // A message that is the first n bytes of a buffer.
 pub fn say_first(program: &[u8], bytes: &[u8], n: usize) {
     begin(program);
-    write_first(STDERR_FILENO, bytes, n);
+    io::write_all(ERROR, first(bytes, n));
 }
 
 // A message on a word, as a name that is not known.
 pub fn say_of(program: &[u8], text: &[u8], word: &[u8]) {
     begin(program);
-    io::write_all(STDERR_FILENO, text);
-    io::write_all(STDERR_FILENO, word);
-    io::write_all(STDERR_FILENO, b"\n");
+    io::write_all(ERROR, text);
+    io::write_all(ERROR, word);
+    io::write_all(ERROR, b"\n");
 }
 
-// What the call just before could not do, and why, in the system's words.
-pub fn fail(program: &[u8], what: &[u8]) {
+// The words of an error as they are written.
+#[derive(Drop)]
+struct Words {
+    bytes: [u8; 256],
+    length: usize,
+}
+
+impl Write for Words {
+    fn write_str(&mut self, s: &str) -> fmt::Result {
+        for b in s.as_bytes() {
+            let n = self.length;
+            if n < 256 {
+                self.bytes[n] = *b;
+                self.length = n + 1;
+            }
+        }
+        Ok(())
+    }
+}
+
+// How many bytes stand before the number of an error, which its words end with; all, where they have none.
+fn before_number(text: &[u8]) -> usize
+    ensures { result ≤ length text.now }
+{
+    let mut n = text.len();
+    while n > 0 {
+        n -= 1;
+        if text[n] == b'(' {
+            return if n > 0 { n - 1 } else { 0 };
+        }
+    }
+    text.len()
+}
+
+// Why a call failed, in the system's words, and the line's end.
+pub fn say_error(error: Error) {
+    let mut words = Words {
+        bytes: [0; 256],
+        length: 0,
+    };
+    let _ = write!(words, "{error}");
+    let text = first(&words.bytes, words.length);
+    io::write_all(ERROR, &text[..before_number(text)]);
+    io::write_all(ERROR, b"\n");
+}
+
+// What a call could not do, and why, in the system's words.
+pub fn fail(program: &[u8], what: &[u8], error: Error) {
     begin(program);
-    os::fail(what);
+    io::write_all(ERROR, what);
+    io::write_all(ERROR, b": ");
+    say_error(error);
 }

@@ -1,69 +1,83 @@
-// Bytes written: to a descriptor, or to a file that is replaced whole or not at all.
+// Bytes written: to a sink, or to a file that is replaced whole or not at all.
 ghost use Rattle.io.specs.Counts.{IsPrefixLen};
 
 use crate::message::fail;
 use crate::pieces::least;
+use crate::system::{Sink, System, create, remove, rename};
 use crate::words::join;
 
-// Writes the first n bytes, or all where there are fewer; whether it could.
-pub fn write_first(fd: i32, bytes: &[u8], n: usize) -> bool {
+// The first n bytes, or all where there are fewer.
+pub fn first(bytes: &[u8], n: usize) -> &[u8] {
     let some = least(n, bytes.len());
-    io::write_all(fd, &bytes[..some])
+    &bytes[..some]
 }
 
-// A file that is being written: its descriptor, or a negative number where there is none, and how long its name is.
-#[derive(Clone, Copy)]
+// Writes the first n bytes, or all where there are fewer; whether it could.
+pub fn write_first(to: &Sink, bytes: &[u8], n: usize) -> bool {
+    to.write_all(first(bytes, n))
+}
+
+// A file that is being written, or none, and how long its name is.
+#[derive(Drop)]
 pub struct Output {
-    pub fd: i32,
+    pub sink: Option<Sink>,
     pub name: usize,
 }
 
 // Begins to replace the file at a path: makes one beside it, whose name, the path and `.new`, is put at the start of `name`. Where it can't
 // be made, as where there is one already, that is said.
 // Ruled out: a file made under a name cut short; a name longer than its buffer.
-pub fn begin(program: &[u8], path: &[u8], name: &mut [u8]) -> Output
+pub fn begin<R: System>(rt: &R, program: &[u8], path: &[u8], name: &mut [u8]) -> Output
     ensures { IsPrefixLen result.name name.new }
 {
     let n = join(path, b".new", name);
-    let fd = os::create(&name[..n]);
-    if fd < 0 {
-        fail(program, &name[..n]);
-    }
-    Output { fd, name: n }
+    let sink = match create(rt, &name[..n]) {
+        Ok(file) => Some(Sink::file(file)),
+        Err(e) => {
+            fail(program, &name[..n], e);
+            None
+        }
+    };
+    Output { sink, name: n }
 }
 
-// Whether a file's bytes are all on the disk, and it is closed.
-fn kept(fd: i32) -> bool {
-    let synced = libc::fsync(fd) == 0;
-    let closed = libc::close(fd) == 0;
-    synced && closed
+// A file that was written takes the place of the one at the path.
+fn placed<R: System>(rt: &R, sink: Sink, name: &[u8], path: &[u8]) -> std::io::Result<()> {
+    sink.keep()?;
+    rename(rt, name, path)
 }
 
 // Ends it: a file that was written whole takes the place of the one at the path. Otherwise the new one is removed and the old one stands.
 // Whether it was replaced; where a whole file was not, that is said.
-pub fn finish(program: &[u8], fd: i32, name: &[u8], path: &[u8], whole: bool) -> bool {
-    if kept(fd) && whole && os::rename(name, path) == 0 {
-        return true;
-    }
+pub fn finish<R: System>(
+    rt: &R,
+    program: &[u8],
+    sink: Sink,
+    name: &[u8],
+    path: &[u8],
+    whole: bool,
+) -> bool {
     if whole {
-        fail(program, path);
+        match placed(rt, sink, name, path) {
+            Ok(()) => return true,
+            Err(e) => fail(program, path, e),
+        }
     }
-    os::unlink(name);
+    remove(rt, name);
     false
 }
 
 // Replaces the file at a path by one with these bytes, whole or not at all. Where it can't, that is said.
-pub fn replace(program: &[u8], path: &[u8], bytes: &[u8]) -> bool {
+pub fn replace<R: System>(rt: &R, program: &[u8], path: &[u8], bytes: &[u8]) -> bool {
     let mut name = io::buffer();
-    let o = begin(program, path, &mut name);
-    let fd = o.fd;
+    let o = begin(rt, program, path, &mut name);
     let n = o.name;
-    if fd < 0 {
+    let Some(sink) = o.sink else {
         return false;
-    }
-    let whole = io::write_all(fd, bytes);
+    };
+    let whole = sink.write_all(bytes);
     if !whole {
-        fail(program, &name[..n]);
+        fail(program, &name[..n], sink.error());
     }
-    finish(program, fd, &name[..n], path, whole)
+    finish(rt, program, sink, &name[..n], path, whole)
 }

@@ -3,7 +3,9 @@ ghost use Rattle.std.specs.Prelude.{◌≡◌, ◌-◌, min};
 ghost use Rattle.io.specs.Counts.{IsPrefixLen};
 ghost use Rattle.files.specs.Pieces.{counted, carried, left, Fills};
 
+use crate::origin::Origin;
 use crate::progress::tell;
+use crate::system::System;
 
 // How many bytes the buffer now has, whether the input has ended, and whether it could not be read.
 #[derive(Clone, Copy)]
@@ -13,25 +15,9 @@ pub struct Filled {
     pub failed: bool,
 }
 
-// One read. A call that a signal interrupts is made again.
-fn read(fd: i32, buf: &mut [u8]) -> isize {
-    let mut turns = u64::MAX;
-    while turns > 0 {
-        let got = libc::read(fd, buf);
-        if got >= 0 {
-            return got;
-        }
-        if os::errno() != libc::EINTR {
-            return got;
-        }
-        turns -= 1;
-    }
-    -1
-}
-
 // One read behind the bytes that wait, unless the input has ended or there is no room for it.
 // Ruled out: a byte that waits overwritten; more bytes reported than the buffer has.
-pub fn fill(fd: i32, buf: &mut [u8], have: usize, ended: bool) -> Filled
+pub fn fill<R: System>(rt: &R, from: &Origin, buf: &mut [u8], have: usize, ended: bool) -> Filled
     ensures prefix_len { IsPrefixLen result.total buf.new }
     ensures fills { Fills have buf.old result buf.new }
 {
@@ -49,20 +35,27 @@ pub fn fill(fd: i32, buf: &mut [u8], have: usize, ended: bool) -> Filled
             failed: false,
         };
     }
-    let got = read(fd, &mut buf[have..]);
-    if got <= 0 {
-        return Filled {
+    match from.read(&mut buf[have..]) {
+        Ok(n) => {
+            if n == 0 {
+                return Filled {
+                    total: have,
+                    ended: true,
+                    failed: false,
+                };
+            }
+            tell(rt, from, n);
+            Filled {
+                total: have + n,
+                ended,
+                failed: false,
+            }
+        }
+        Err(_) => Filled {
             total: have,
             ended: true,
-            failed: got < 0,
-        };
-    }
-    let n = io::count(got, &buf[have..]);
-    tell(fd, n);
-    Filled {
-        total: have + n,
-        ended,
-        failed: false,
+            failed: true,
+        },
     }
 }
 

@@ -1,5 +1,11 @@
 // How far a program has come with a long input, said where standard error is a terminal.
-use libc::STDERR_FILENO;
+use crate::origin::Origin;
+use crate::system::System;
+use std::io::IsTerminal;
+use std::time::Duration;
+
+// Standard error.
+const ERROR: i32 = 2;
 
 // Whether the last so many bytes up to a place have come past a multiple of the bytes from one message to the next: 256 KiB at first, for an input that
 // takes long, then 4 MiB, then 64 MiB.
@@ -14,23 +20,24 @@ fn passes(place: u64, more: usize) -> bool {
     place % 0x400_0000 < n
 }
 
-// A place in a file; 0 where a number is none.
-fn within(place: i64) -> u64 {
-    if place > 0 { place as u64 } else { 0 }
+// Whether a program has used a second of the processor.
+fn takes_long<R: System>(rt: &R) -> bool {
+    rt.process_cpu_time()
+        .is_ok_and(|t| t > Duration::from_secs(1))
 }
 
 // Says, once a program has used a second of the processor, how much of a file was read, when so many bytes more were. Of what has no place, as a pipe,
 // nothing is said.
-pub fn tell(fd: i32, more: usize) {
-    if libc::isatty(STDERR_FILENO) == 0 {
+pub fn tell<R: System>(rt: &R, from: &Origin, more: usize) {
+    if !rt.error().is_terminal() {
         return;
     }
-    let place = within(libc::lseek(fd, 0, libc::SEEK_CUR));
+    let place = from.place();
     if place == 0 {
         return;
     }
-    if passes(place, more) && libc::clock() > 1000000 {
-        io::print_decimal(STDERR_FILENO, place / 1024);
-        io::write_all(STDERR_FILENO, b" KiB read\n");
+    if passes(place, more) && takes_long(rt) {
+        io::print_decimal(ERROR, place / 1024);
+        io::write_all(ERROR, b" KiB read\n");
     }
 }

@@ -2,6 +2,9 @@
 ghost use Rattle.io.specs.Counts.{IsPrefixLen};
 
 use crate::message::fail;
+use crate::origin::Origin;
+use crate::system::System;
+use std::io::ErrorKind;
 
 // Whether a file could be read, how many of its bytes are in the buffer, and whether it has more.
 #[derive(Clone, Copy)]
@@ -12,56 +15,66 @@ pub struct Contents {
 }
 
 // Whether a file has ended.
-fn at_end(fd: i32) -> bool {
+fn at_end(from: &Origin) -> bool {
     let mut more = [0u8; 1];
-    libc::read(fd, &mut more) == 0
+    from.read(&mut more).is_ok_and(|n| n == 0)
+}
+
+// Reads until the buffer is full, the file ends or a read fails; how many bytes there are.
+fn read_full(from: &Origin, buf: &mut [u8]) -> usize
+    ensures { IsPrefixLen result buf.new }
+{
+    let mut have = 0;
+    while have < buf.len() {
+        let n = from.read(&mut buf[have..]).unwrap_or(0);
+        if n == 0 {
+            return have;
+        }
+        have += n;
+    }
+    have
 }
 
 // The file at a path. One that is not there has no bytes, where it may be new. What can't be opened is said.
 // Ruled out: more bytes counted than the buffer has; bytes counted of a file that could not be opened.
-pub fn whole(program: &[u8], path: &[u8], new: bool, buf: &mut [u8]) -> Contents
+pub fn whole<R: System>(rt: &R, program: &[u8], path: &[u8], new: bool, buf: &mut [u8]) -> Contents
     ensures { IsPrefixLen result.count buf.new }
 {
-    let fd = os::open_read(path);
-    if fd < 0 {
-        if new & (os::errno() == libc::ENOENT) {
-            return Contents {
+    match Origin::open(rt, path) {
+        Ok(from) => {
+            let count = read_full(&from, buf);
+            let more = !at_end(&from);
+            Contents {
                 read: true,
+                count,
+                more,
+            }
+        }
+        Err(e) => {
+            if new & (e.kind() == ErrorKind::NotFound) {
+                return Contents {
+                    read: true,
+                    count: 0,
+                    more: false,
+                };
+            }
+            fail(program, path, e);
+            Contents {
+                read: false,
                 count: 0,
                 more: false,
-            };
+            }
         }
-        fail(program, path);
-        return Contents {
-            read: false,
-            count: 0,
-            more: false,
-        };
-    }
-    let count = io::read_full(fd, buf);
-    let more = !at_end(fd);
-    libc::close(fd);
-    Contents {
-        read: true,
-        count,
-        more,
     }
 }
 
 // Whether the next read of a file begins at a place. Where it can't, it begins at the start: a pipe has no other place.
-pub fn seek(fd: i32, place: u64) -> bool {
+pub fn seek<R: System>(rt: &R, from: &Origin, place: u64) -> bool {
     if place == 0 {
         return true;
     }
     if place > 4611686018427387904 {
         return false;
     }
-    let at = place as i64;
-    if libc::lseek(fd, 0, libc::SEEK_END) >= at {
-        if libc::lseek(fd, at, libc::SEEK_SET) == at {
-            return true;
-        }
-    }
-    libc::lseek(fd, 0, libc::SEEK_SET);
-    false
+    from.go_to(rt, place)
 }

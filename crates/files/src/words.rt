@@ -15,8 +15,17 @@ pub enum Word {
     Plain,
 }
 
+// Two words have the same bytes.
+// Ruled out: a word taken for another one that begins it, or that it begins.
+pub fn same(a: &[u8], b: &[u8]) -> bool
+    ensures { result ≡ same a.now b.now }
+{
+    a == b
+}
+
 // An option begins with a minus sign; that sign alone is none.
 // Ruled out: the name of standard input taken for an option; an option taken for a file's name.
+#[tactic(auto, unfolding(crate::specs::Words::is_option))]
 pub fn is_option(word: &[u8]) -> bool
     ensures { result ≡ is_option word.now }
 {
@@ -33,16 +42,16 @@ pub fn kind(word: &[u8], help: &[u8], version: &[u8], first: &[u8], second: &[u8
     if !is_option(word) {
         return Word::Plain;
     }
-    if check::same(word, help) {
+    if same(word, help) {
         return Word::Help;
     }
-    if check::same(word, version) {
+    if same(word, version) {
         return Word::Version;
     }
-    if check::same(word, first) {
+    if same(word, first) {
         return Word::First;
     }
-    if check::same(word, second) {
+    if same(word, second) {
         return Word::Second;
     }
     Word::Unknown
@@ -62,7 +71,8 @@ pub fn join(a: &[u8], b: &[u8], buf: &mut [u8]) -> usize
     if b.len() > buf.len() - n {
         return 0;
     }
-    bytes::copy(a, buf);
-    bytes::copy(b, &mut buf[n..]);
-    n + b.len()
+    let end = n + b.len();
+    buf[..n].copy_from_slice(a);
+    buf[n..end].copy_from_slice(b);
+    end
 }

@@ -1,9 +1,13 @@
 -- The options of a command, by name. A list of names has a blank behind each.
-use Rattle.std.specs.Prelude.{cond, List, ℕ, zero, suc, eqb, ltb, length, take, drop}
-use Rattle.bytes.specs.Bytes.{index_of}
+use Rattle.std.specs.Prelude.{cond, List, [], ◌∷◌, ℕ, zero, suc, eqb, ltb, length, take, drop}
 use Rattle.files.specs.Words.{same, is_option}
 use Rattle.shell.specs.declared.options.Kind.{Kind}
 use Rattle.shell.specs.declared.options.Kind.TheVariants.{Plain, Help, Version, End, Flag, Valued, Unknown}
+
+-- The place of the first byte with a value; the length where there is none.
+unfoldable pub index_of : ℕ → List ℕ → ℕ
+index_of b [] = 0
+index_of b (x ∷ xs) = cond (eqb x b) 0 (suc (index_of b xs))
 
 -- The number of the name that a word is, where the first has number k, among so many; 16 where it is none.
 unfoldable pub among : ℕ → ℕ → List ℕ → List ℕ → ℕ

@@ -6,9 +6,13 @@ ghost use Rattle.shell.specs.Arguments.{none, Goes};
 use crate::arguments::{Seen, Verdict};
 use crate::message::{fail, say_of};
 use crate::options::{Kind, kind_of};
+use files::command::{argument, count};
 use files::message::say;
+use files::system::{Sink, System};
 use files::version::print_version;
-use libc::{STDERR_FILENO, STDOUT_FILENO};
+
+// Standard error.
+const ERROR: i32 = 2;
 
 // Whether the command goes on, or something was wrong, and its options and words.
 #[derive(Clone, Copy)]
@@ -19,18 +23,18 @@ pub struct Given {
 }
 
 // A word that is longer than any path counts as an empty one.
-fn kind_at(i: usize, flags: &[u8], valued: &[u8]) -> Kind {
+fn kind_at<R: System>(rt: &R, i: usize, flags: &[u8], valued: &[u8]) -> Kind {
     let mut word = io::buffer();
-    let n = os::arg(i, &mut word);
+    let n = argument(rt, i, &mut word);
     kind_of(&word[..n], b"-h --help --version -- ", flags, valued)
 }
 
-fn see(from: usize, flags: &[u8], valued: &[u8]) -> Seen {
-    let count = os::arg_count();
+fn see<R: System>(rt: &R, from: usize, flags: &[u8], valued: &[u8]) -> Seen {
+    let total = count(rt);
     let mut seen = Seen::none();
     let mut i = from;
-    while i < count {
-        let kind = kind_at(i, flags, valued);
+    while i < total {
+        let kind = kind_at(rt, i, flags, valued);
         seen = seen.taken(i, kind);
         i += 1;
     }
@@ -38,27 +42,28 @@ fn see(from: usize, flags: &[u8], valued: &[u8]) -> Seen {
 }
 
 // A message on the argument at a place.
-fn say_argument(program: &[u8], text: &[u8], i: usize) {
+fn say_argument<R: System>(rt: &R, program: &[u8], text: &[u8], i: usize) {
     let mut word = io::buffer();
-    let n = os::arg(i, &mut word);
+    let n = argument(rt, i, &mut word);
     say_of(program, text, &word[..n]);
 }
 
-fn say_no_value(program: &[u8]) {
-    let count = os::arg_count();
-    if count > 0 {
-        say_argument(program, b"no value for ", count - 1);
+fn say_no_value<R: System>(rt: &R, program: &[u8]) {
+    let total = count(rt);
+    if total > 0 {
+        say_argument(rt, program, b"no value for ", total - 1);
     }
 }
 
 // The usage and the help on standard output; whether they could not be written, which is said.
-fn print_help(program: &[u8], usage: &[u8], help: &[u8]) -> bool {
-    if io::write_all(STDOUT_FILENO, usage) {
-        if io::write_all(STDOUT_FILENO, help) {
+fn print_help<R: System>(rt: &R, program: &[u8], usage: &[u8], help: &[u8]) -> bool {
+    let output = Sink::output(rt);
+    if output.write_all(usage) {
+        if output.write_all(help) {
             return false;
         }
     }
-    fail(program, b"standard output");
+    fail(program, b"standard output", output.error());
     true
 }
 
@@ -76,7 +81,7 @@ fn stopped(wrong: bool) -> Given
 fn refused(usage: &[u8]) -> Given
     ensures { result ≡ record { go = false; wrong = true; seen = none } }
 {
-    io::write_all(STDERR_FILENO, usage);
+    io::write_all(ERROR, usage);
     stopped(true)
 }
 
@@ -84,7 +89,8 @@ fn refused(usage: &[u8]) -> Given
 // follows, with a blank behind each name; so many words, at most 8; a usage and a help.
 // Ruled out: a command that goes on without a word that it needs, with one that it won't look at, with an option that it doesn't know, or with one that
 // waits for its value.
-pub fn read_line(
+pub fn read_line<R: System>(
+    rt: &R,
     from: usize,
     program: &[u8],
     flags: &[u8],
@@ -97,9 +103,9 @@ pub fn read_line(
     ensures { Goes least most result.go result.seen }
 {
     if from == 0 {
-        return stopped(print_help(program, usage, help));
+        return stopped(print_help(rt, program, usage, help));
     }
-    let seen = see(from, flags, valued);
+    let seen = see(rt, from, flags, valued);
     let verdict = seen.judged(least, most);
     match verdict {
         Verdict::Go => Given {
@@ -107,14 +113,14 @@ pub fn read_line(
             wrong: false,
             seen,
         },
-        Verdict::Help => stopped(print_help(program, usage, help)),
-        Verdict::Version => stopped(print_version(program)),
+        Verdict::Help => stopped(print_help(rt, program, usage, help)),
+        Verdict::Version => stopped(print_version(rt, program)),
         Verdict::Unknown => {
-            say_argument(program, b"unknown option ", seen.unknown);
+            say_argument(rt, program, b"unknown option ", seen.unknown);
             refused(usage)
         }
         Verdict::NoValue => {
-            say_no_value(program);
+            say_no_value(rt, program);
             refused(usage)
         }
         Verdict::TooFew => {

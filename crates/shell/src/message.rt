@@ -2,7 +2,11 @@
 ghost use Rattle.std.specs.Prelude.{◌≡◌, ◌%◌};
 ghost use Rattle.shell.specs.Escapes.{hex_digit, printable, escape};
 
-use libc::STDERR_FILENO;
+use files::message::say_error;
+use std::io::Error;
+
+// Standard error.
+const ERROR: i32 = 2;
 
 // A digit, in capitals.
 fn hex_digit(n: u8) -> u8
@@ -34,11 +38,11 @@ pub fn escape(b: u8) -> [u8; 4]
 
 fn say_byte(b: u8) {
     if printable(b) {
-        io::write_all(STDERR_FILENO, &[b]);
+        io::write_all(ERROR, &[b]);
         return;
     }
     let e = escape(b);
-    io::write_all(STDERR_FILENO, &e);
+    io::write_all(ERROR, &e);
 }
 
 // Bytes of a name or a file.
@@ -54,12 +58,13 @@ pub fn say_bytes(bytes: &[u8]) {
 pub fn say_of(program: &[u8], text: &[u8], word: &[u8]) {
     files::message::say(program, text);
     say_bytes(word);
-    io::write_all(STDERR_FILENO, b"\n");
+    io::write_all(ERROR, b"\n");
 }
 
-// What the call just before could not do, and why, in the system's words.
-pub fn fail(program: &[u8], what: &[u8]) {
+// What a call could not do, and why, in the system's words.
+pub fn fail(program: &[u8], what: &[u8], error: Error) {
     files::message::say(program, b"");
     say_bytes(what);
-    os::fail(b"");
+    io::write_all(ERROR, b": ");
+    say_error(error);
 }

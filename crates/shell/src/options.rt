@@ -1,9 +1,8 @@
 // The options of a command: what kind a word is, by the names that the command knows.
 ghost use Rattle.std.specs.Prelude.{◌≡◌, ◌≤◌, length};
-ghost use Rattle.bytes.specs.Bytes.{index_of};
-ghost use Rattle.shell.specs.Options.{position, named, kind_of};
+ghost use Rattle.shell.specs.Options.{index_of, position, named, kind_of};
 
-use files::words::is_option;
+use files::words::{is_option, same};
 
 // A word is none, as a file's name; -h or --help; --version; --, behind which no word is an option; an option that stands alone or one that a value
 // follows, by its number in the command's list; or an option that the command doesn't know.
@@ -23,7 +22,14 @@ fn first_name(names: &[u8]) -> usize
     ensures value { result ≡ index_of 32 names.now }
     ensures upper_bound { result ≤ length names.now }
 {
-    bytes::scan::find(names, 0, names.len(), 32)
+    let mut n = 0;
+    while n < names.len() {
+        if names[n] == 32 {
+            return n;
+        }
+        n += 1;
+    }
+    n
 }
 
 // The number, from 0, of the name that a word is, in a list in which a blank follows each name; 16 where it is none of the first 16.
@@ -39,7 +45,7 @@ pub fn position(word: &[u8], names: &[u8]) -> u8
         if end >= names.len() {
             return 16;
         }
-        if check::same(word, &names[at..end]) {
+        if same(word, &names[at..end]) {
             return k;
         }
         at = end + 1;

@@ -1,17 +1,21 @@
 // Where an output goes: standard output, what is no plain file, or a file that is replaced whole or not at all, by one that is made in the same folder.
-ghost use Rattle.std.specs.Prelude.{◌≡◌, ◌≤◌, length};
+ghost use Rattle.std.specs.Prelude.{◌≡◌, ◌≤◌, length, IfOk};
 ghost use Rattle.io.specs.Counts.{IsPrefixLen};
 ghost use Rattle.shell.specs.Folder.{folder};
 
 use crate::message::fail;
 use files::pieces::least;
-use files::words::join;
+use files::system::{
+    Sink, System, create, has_places, is_invalid, open_append, path_of, remove, rename,
+};
+use files::words::{join, same};
+use std::fs::File;
+use std::io::{Error, ErrorKind};
 
-// What is written: its descriptor, or a negative number where there is none; how long the name of the file is that is made first, or 0 where there is none;
-// and that of the file whose place it takes.
-#[derive(Clone, Copy)]
+// What is written, or nothing; how long the name of the file is that is made first, or 0 where there is none; and that of the file whose place it takes.
+#[derive(Drop)]
 pub struct Target {
-    pub fd: i32,
+    pub sink: Option<Sink>,
     pub beside: usize,
     pub place: usize,
 }
@@ -39,12 +43,25 @@ fn within(n: usize, bytes: &[u8]) -> usize
     least(n, bytes.len())
 }
 
-// What a link names; less than 1 where a path names no link.
-fn link(path: &[u8], text: &mut [u8]) -> isize {
-    let mut ended = io::buffer();
-    join(path, b"", &mut ended);
-    ended[4095] = 0;
-    libc::readlink(&ended, text)
+// A text at the start of a buffer, and its length; 0 where it is too long.
+fn put_text(text: &[u8], buf: &mut [u8]) -> usize
+    ensures { IsPrefixLen result buf.new }
+{
+    join(text, b"", buf)
+}
+
+// What a link names, at the start of a buffer, and its length; 0 where a path names no link. Only where the system has no say, as where there is no
+// memory for the name, it could not be found out.
+fn link<R: System>(rt: &R, path: &[u8], text: &mut [u8]) -> std::io::Result<usize>
+    ensures { IfOk result (λ n. IsPrefixLen n text.new) }
+{
+    match rt.read_link(rt.alloc(), path_of(path)?) {
+        Ok(named) => Ok(put_text(named.as_str().as_bytes(), text)),
+        Err(e) => match e.raw_os_error() {
+            Some(_) => Ok(0),
+            None => Err(e),
+        },
+    }
 }
 
 // A text behind the first so many bytes of a buffer, and how long both are; 0 where they are too long.
@@ -56,137 +73,210 @@ fn lead(place: &mut [u8], d: usize, text: &[u8]) -> usize {
 }
 
 // Where the link at the start of a buffer leads, which is put there; 0 where there is none.
-fn follow(place: &mut [u8], n: usize) -> usize {
+fn follow<R: System>(rt: &R, place: &mut [u8], n: usize) -> std::io::Result<usize> {
     let mut text = io::buffer();
     let some = within(n, place);
-    let got = link(&place[..some], &mut text);
-    let m = io::count(got, &text);
+    let m = link(rt, &place[..some], &mut text)?;
     if m == 0 {
-        return 0;
+        return Ok(0);
     }
     if text[0] == 47 {
-        return lead(place, 0, &text[..m]);
+        return Ok(lead(place, 0, &text[..m]));
     }
     let d = folder(&place[..some]);
-    lead(place, d, &text[..m])
+    Ok(lead(place, d, &text[..m]))
 }
 
 // The path of what a path names in the end, at the start of a buffer, and its length. Links are followed, up to forty.
-fn resolve(path: &[u8], place: &mut [u8]) -> usize {
+fn resolve<R: System>(rt: &R, path: &[u8], place: &mut [u8]) -> std::io::Result<usize> {
     let mut n = join(path, b"", place);
     let mut turns: u64 = 40;
     while turns > 0 {
-        let m = follow(place, n);
+        let m = follow(rt, place, n)?;
         if m == 0 {
-            return n;
+            return Ok(n);
         }
         n = m;
         turns -= 1;
     }
-    n
+    Ok(n)
 }
 
 fn none() -> Target {
     Target {
-        fd: -1,
+        sink: None,
         beside: 0,
         place: 0,
     }
 }
 
-// A file of its own, with the mode of a new one: the system chooses its name.
-fn fresh(name: &mut [u8]) -> i32 {
-    let fd = os::create_temp(name);
-    if fd < 0 {
-        return fd;
+// Six letters at the end of a name, by a number.
+fn letter(name: &mut [u8], number: u32) {
+    let mut left = number;
+    let mut i = name.len();
+    let mut k = 0;
+    while k < 6 {
+        if i == 0 {
+            return;
+        }
+        i -= 1;
+        name[i] = 97 + (left % 26) as u8;
+        left /= 26;
+        k += 1;
     }
-    libc::close(fd);
-    os::unlink(name);
-    os::create(name)
+}
+
+// Where the names that are tried begin, so that two programs seldom try the same ones.
+fn begin_names<R: System>(rt: &R) -> u32 {
+    match rt.process_cpu_time() {
+        Ok(t) => t.subsec_nanos(),
+        Err(_) => 0,
+    }
+}
+
+// A file of its own, with the mode of a new one, under a name that no other file has.
+fn fresh<R: System>(rt: &R, name: &mut [u8]) -> std::io::Result<Sink> {
+    let mut number = begin_names(rt);
+    let mut turns: u32 = 238328;
+    while turns > 0 {
+        letter(name, number);
+        match create(rt, name) {
+            Ok(file) => return Ok(Sink::file(file)),
+            Err(e) => {
+                if e.kind() != ErrorKind::AlreadyExists {
+                    return Err(e);
+                }
+            }
+        }
+        number = number.wrapping_add(1);
+        turns -= 1;
+    }
+    Err(Error::from(ErrorKind::AlreadyExists))
 }
 
 // Makes a file in the folder of what a path names in the end.
-fn make(program: &[u8], path: &[u8], place: &mut [u8], beside: &mut [u8]) -> Target {
-    let found = resolve(path, place);
+fn make<R: System>(
+    rt: &R,
+    path: &[u8],
+    place: &mut [u8],
+    beside: &mut [u8],
+) -> std::io::Result<Target> {
+    let found = resolve(rt, path, place)?;
     let n = within(found, place);
     let d = within(folder(&place[..n]), place);
     let m = join(&place[..d], b".qsm-XXXXXX", beside);
-    let fd = fresh(&mut beside[..m]);
-    if fd < 0 {
-        fail(program, path);
-    }
-    Target {
-        fd,
+    let sink = fresh(rt, &mut beside[..m])?;
+    Ok(Target {
+        sink: Some(sink),
         beside: m,
         place: n,
-    }
+    })
 }
 
 // A plain file has places, and can be waited for until it is on the disk.
-fn is_plain(fd: i32) -> bool {
-    if libc::lseek(fd, 0, libc::SEEK_CUR) < 0 {
+fn is_plain(file: &File) -> bool {
+    if !has_places(file) {
         return false;
     }
-    if libc::fsync(fd) == 0 {
-        return true;
+    match file.sync_all() {
+        Ok(()) => true,
+        Err(e) => !is_invalid(e),
     }
-    os::errno() != libc::EINVAL
+}
+
+// What is written for a path: what is there and no plain file, or a file that is made first.
+fn open<R: System>(
+    rt: &R,
+    path: &[u8],
+    place: &mut [u8],
+    beside: &mut [u8],
+) -> std::io::Result<Target> {
+    match open_append(rt, path) {
+        Ok(file) => {
+            if is_plain(&file) {
+                return make(rt, path, place, beside);
+            }
+            Ok(Target {
+                sink: Some(Sink::file(file)),
+                beside: 0,
+                place: 0,
+            })
+        }
+        Err(e) => {
+            if e.kind() == ErrorKind::NotFound {
+                return make(rt, path, place, beside);
+            }
+            Err(e)
+        }
+    }
 }
 
 // Begins to write what a path names. A minus sign is standard output; what is no plain file, as a FIFO or a terminal, is written itself; a plain file, or
 // one that is not there, is replaced in the end. The two buffers keep names for `finish`. Where it can't be written, that is said.
-pub fn begin(program: &[u8], path: &[u8], place: &mut [u8], beside: &mut [u8]) -> Target {
-    if check::same(path, b"-") {
+pub fn begin<R: System>(
+    rt: &R,
+    program: &[u8],
+    path: &[u8],
+    place: &mut [u8],
+    beside: &mut [u8],
+) -> Target {
+    if same(path, b"-") {
         return Target {
-            fd: libc::STDOUT_FILENO,
+            sink: Some(Sink::output(rt)),
             beside: 0,
             place: 0,
         };
     }
-    let fd = os::open_append(path);
-    if fd < 0 {
-        if os::errno() == libc::ENOENT {
-            return make(program, path, place, beside);
+    match open(rt, path, place, beside) {
+        Ok(t) => t,
+        Err(e) => {
+            fail(program, path, e);
+            none()
         }
-        fail(program, path);
-        return none();
-    }
-    if is_plain(fd) {
-        libc::close(fd);
-        return make(program, path, place, beside);
-    }
-    Target {
-        fd,
-        beside: 0,
-        place: 0,
     }
 }
 
-// Whether a file's bytes are all on the disk, and it is closed.
-fn kept(fd: i32) -> bool {
-    let synced = libc::fsync(fd) == 0;
-    let closed = libc::close(fd) == 0;
-    synced && closed
+// A file that was written takes the place of another one, or of none.
+fn placed<R: System>(rt: &R, sink: Sink, name: &[u8], path: &[u8]) -> std::io::Result<()> {
+    sink.keep()?;
+    rename(rt, name, path)
 }
 
 // Whether the new file took the place of the old one. Otherwise it is removed, and the old one stands.
-fn replaced(program: &[u8], fd: i32, name: &[u8], path: &[u8], whole: bool) -> bool {
-    if kept(fd) && whole && os::rename(name, path) == 0 {
-        return true;
-    }
+fn replaced<R: System>(
+    rt: &R,
+    program: &[u8],
+    sink: Sink,
+    name: &[u8],
+    path: &[u8],
+    whole: bool,
+) -> bool {
     if whole {
-        fail(program, path);
+        match placed(rt, sink, name, path) {
+            Ok(()) => return true,
+            Err(e) => fail(program, path, e),
+        }
     }
-    os::unlink(name);
+    remove(rt, name);
     false
 }
 
 // Ends it: whether all of it is written where it belongs. A file that was not written whole takes no place. What goes wrong here is said.
-pub fn finish(program: &[u8], t: Target, place: &[u8], beside: &[u8], whole: bool) -> bool {
+pub fn finish<R: System>(
+    rt: &R,
+    program: &[u8],
+    t: Target,
+    place: &[u8],
+    beside: &[u8],
+    whole: bool,
+) -> bool {
     let n = within(t.place, place);
     let m = within(t.beside, beside);
     if m == 0 {
         return whole;
     }
-    replaced(program, t.fd, &beside[..m], &place[..n], whole)
+    match t.sink {
+        Some(sink) => replaced(rt, program, sink, &beside[..m], &place[..n], whole),
+        None => false,
+    }
 }
