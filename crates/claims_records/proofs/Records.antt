@@ -1,17 +1,16 @@
 -- Records from their bytes. Assumes nothing.
-use mathlib.Core.Path.{◌≡◌, refl, ap, ◌∙◌}
-use mathlib.Core.Bool.{Bool, true, false, not, cond}
-use mathlib.Core.List.{List, [], ◌∷◌}
+use mathlib.Core.Path.{◌≡◌, refl, ◌∙◌}
+use mathlib.Core.Bool.{Bool, true, false}
+use mathlib.Core.List.{List, ◌∷◌}
 use Prim.Native.Nat.{ℕ, ◌+◌, ◌*◌, ◌/◌, ◌%◌, ◌≤◌, ◌<◌}
 use native.Mathlib.Omega.{arith}
-use lib.Dec.{eqb, ltb, leb}
+use lib.Dec.{leb}
 use lib.ListN.{length}
 use borrow.Author.Tests.{ne_eqb, le-ltb, le-leb, lt-leb}
 use Rattle.steps.specs.Bits.{digit}
 use Rattle.qsm.specs.declared.event.Event.{Event}
-use Rattle.trace.specs.Trace.{by_kind, whole, every_kind, parsed_by, parsed, byte_at, supervisor_of, width_of}
-use Rattle.trace.specs.declared.Parsed.{Parsed}
-use Rattle.trace.specs.declared.Parsed.TheVariants.{Record, Cut}
+use Rattle.trace.specs.Trace.{by_kind, whole, parsed}
+use Rattle.trace.specs.declared.Parsed.TheVariants.{Record}
 use Rattle.claims_records.specs.Records.{Resets, Holds, Reads, Writes, LongHolds, Answers, Claims}
 
 -- A record with a first byte is read by its kind, and one of n bytes or more is whole.
