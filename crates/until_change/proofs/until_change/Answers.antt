@@ -10,8 +10,6 @@ use Rattle.until_change.proofs.Turns.{changed, begins, meant, some, goes_on, end
 use Rattle.until_change.proofs.Returning.{comes_back}
 use Rattle.until_change.proofs.until_change.Goals as goal
 
--- The invariant: the module stands so many clocks on, the kept one not more, and up to there nothing else is shown.
-
 fewer : (left k kept : ℕ) → 1 ≤ k → k ≤ left → left ≤ kept → left - k < kept
 fewer left k kept one fits most = omega arith
 

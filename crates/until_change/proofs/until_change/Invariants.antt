@@ -1,3 +1,4 @@
+-- The invariant: the module stands so many clocks on, the kept one not more, and up to there nothing else is shown.
 use mathlib.Core.Path.{◌≡◌}
 use mathlib.Core.Bool.{false}
 use Prim.Native.Nat.{ℕ, ◌-◌, ◌≤◌}

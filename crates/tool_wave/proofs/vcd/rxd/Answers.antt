@@ -1,0 +1,4 @@
+use Rattle.tool_wave.proofs.vcd.rxd.Goals as goal
+
+pub returns : goal.returns
+returns c = rw c.choose.ensures
