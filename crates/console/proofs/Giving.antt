@@ -25,7 +25,7 @@ refused o buf text bad =
       order = refl;
       kept = λ good. never o.failed bad good;
       stopped = λ _. (refl, (refl, refl));
-      same = (refl, refl);
+      same = refl;
       room = refl;
     }
 
@@ -39,7 +39,7 @@ went o buf text bytes h good is hands =
       order = is ∙ rw append-nil (sym (take-append-drop h.taken bytes));
       kept = λ ok. drop_of_length-le bytes {i = h.taken} (omega (arith, hands.all ok));
       stopped = λ bad. never o.failed bad good;
-      same = (refl, refl);
+      same = refl;
       room = refl;
     }
 
@@ -60,33 +60,25 @@ more o buf text o' buf' rest bad g =
     }
 
 -- A text copied behind what waits.
-pub stores : (o : Out) (buf text part : List ℕ) → o.failed ≡ false → Fits o buf text
-    → part ≡ take (length text) text ++ drop (length text) (mid_of o.waits (length buf - o.waits) buf)
-    → Gives o buf text (put_behind o (length text)) (put_mid o.waits (length buf - o.waits) buf part)
+pub stores : (o : Out) (buf text part : List ℕ) → o.failed ≡ false → Fits o buf text → part ≡ text
+    → Gives o buf text (put_behind o (length text)) (put_mid o.waits (o.waits + length text - o.waits) buf part)
 stores o buf text part good fits is =
     let w = o.waits in
-    let middle = mid_of w (length buf - w) buf in
-    let long : length middle ≡ length buf - w = mid_len w (length buf) buf (omega arith) in
+    let n = w + length text - w in
     let front : length (take w buf) ≡ w = length-take-le w buf (omega arith) in
-    let text-is : part ≡ text ++ drop (length text) middle = is ∙ rw (take-length text) in
-    let same : length part ≡ length middle = ap length text-is ∙ simp (length-append, length-drop) (omega (arith, long)) in
-    let behind : put_mid w (length buf - w) buf part ≡ (take w buf ++ text) ++ (drop (length text) middle ++ post_of w (length buf - w) buf) =
-    rw text-is (simp append_assoc) in
+    let middle : length (mid_of w n buf) ≡ n = mid_len w (w + length text) buf fits in
+    let same : length part ≡ length (mid_of w n buf) = ap length is ∙ omega (arith, middle) in
+    let behind : put_mid w n buf part ≡ (take w buf ++ text) ++ post_of w n buf = rw is (simp append_assoc) in
     record {
       handed = [];
       lost = [];
       order =
-          sym
-          (take_at
-          (take w buf ++ text)
-          (drop (length text) middle ++ post_of w (length buf - w) buf)
-          (w + length text)
-          (simp length-append (omega (arith, front))))
+          sym (take_at (take w buf ++ text) (post_of w n buf) (w + length text) (simp length-append (omega (arith, front))))
           ∙ ap (take (w + length text)) (sym behind) ∙ sym (append-nil _);
       kept = λ _. refl;
       stopped = λ bad. never o.failed bad good;
-      same = (refl, refl);
-      room = same_len_mid w (length buf - w) buf part same;
+      same = refl;
+      room = same_len_mid w n buf part same;
     }
 
 -- One text behind another, while the first has not failed, and after it has.
@@ -104,7 +96,7 @@ module _ (o : Out) (buf text : List ℕ) (o₁ : Out) (buf₁ rest : List ℕ) (
             ∙ ap (λ (l : List ℕ). l ++ h.lost) (sym (append_assoc g.handed h.handed (waiting o₂ buf₂))));
         kept = h.kept;
         stopped = λ bad. never o₁.failed (ap (λ (x : Out). x.failed) (g.stopped bad).1.0 ∙ bad) good;
-        same = (h.same.0 ∙ g.same.0, h.same.1 ∙ g.same.1);
+        same = h.same ∙ g.same;
         room = h.room ∙ g.room;
       }
 

@@ -121,7 +121,7 @@ fn stored(out: Out, buf: &mut [u8], text: &[u8]) -> Out
     ensures { Gives out buf.old text.now result buf.new }
 {
     let at = out.waits;
-    bytes::copy(text, &mut buf[at..]);
+    buf[at..at + text.len()].copy_from_slice(text);
     let mut now = out;
     now.waits = at + text.len();
     now
