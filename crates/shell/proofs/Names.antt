@@ -1,21 +1,45 @@
 -- A word looked for among names. Assumes nothing.
 use mathlib.Core.Path.{◌≡◌, refl, sym, ap, ◌∙◌}
-use mathlib.Core.Bool.{true, false}
-use mathlib.Core.List.{List}
+use mathlib.Core.Bool.{Bool, true, false, cond}
+use mathlib.Core.List.{List, [], ◌∷◌}
 use Prim.Native.Nat.{ℕ, zero, suc, ◌+◌, ◌-◌, ◌≤◌, ◌<◌}
 use native.Mathlib.Omega.{arith}
-use native.Mathlib.Nat.{zero-add}
-use lib.ListN.{length, take, drop, length-drop}
-use lib.Seq.{take_all, take-length, length-take-le, drop-drop}
-use borrow.Author.Tests.{lt-ltb, le-ltb}
-use Rattle.bytes.specs.Bytes.{index_of, slice}
+use lib.ListN.{length, take, drop, get_or, length-drop, drop_of_length-le}
+use lib.Seq.{drop-cons, take_all, length-take-le, drop-drop}
+use lib.Dec.{eqb}
+use borrow.Author.Tests.{eq-eqb, ne_eqb, lt-ltb, le-ltb}
 use Rattle.files.specs.Words.{same}
-use Rattle.shell.specs.Options.{among, position}
+use Rattle.shell.specs.Options.{index_of, among, position}
 
--- The first blank of a whole list.
-pub whole : (l : List ℕ) → 0 + index_of 32 (slice 0 (length l) l) ≡ index_of 32 l
-unfolding slice
-whole l = zero-add (index_of 32 (slice 0 (length l) l)) ∙ ap (index_of 32) (take-length l)
+below : (t : Bool) (n m : ℕ) → n ≤ m → cond t 0 (suc n) ≤ suc m
+below true n m h = omega arith
+below false n m h = omega (arith, h)
+
+pub most : (b : ℕ) (l : List ℕ) → index_of b l ≤ length l
+unfolding index_of
+most b [] = omega arith
+most b (x ∷ l) = below (eqb x b) (index_of b l) (length l) (most b l)
+
+module _ (n : ℕ) (names : List ℕ) where
+  rest : n < length names → drop n names ≡ get_or names n 0 ∷ drop (suc n) names
+  rest more = drop-cons names n 0 more
+
+  pub blank : n < length names → get_or names n 0 ≡ 32 → index_of 32 (drop n names) ≡ 0
+  unfolding index_of
+  blank more is = rw (rest more, eq-eqb _ _ is)
+
+  skipped : n < length names → (get_or names n 0 ≡ 32 → ⊥) → index_of 32 (drop n names) ≡ suc (index_of 32 (drop (suc n) names))
+  unfolding index_of
+  skipped more is = rw (rest more, ne_eqb _ _ is)
+
+  pub no_blank : n < length names → (get_or names n 0 ≡ 32 → ⊥) → index_of 32 (drop n names) ≡ suc (index_of 32 (drop (n + 1) names))
+  no_blank more is =
+      let next : suc n ≡ n + 1 = omega arith in
+      skipped more is ∙ ap (λ (k : ℕ). suc (index_of 32 (drop k names))) next
+
+  pub no_more_bytes : length names ≤ n → index_of 32 (drop n names) ≡ 0
+  unfolding index_of
+  no_more_bytes over = rw (drop_of_length-le names {i = n} over)
 
 module _ (n k : ℕ) (word names : List ℕ) where
   no_more : length names ≤ index_of 32 names → among (suc n) k word names ≡ 16

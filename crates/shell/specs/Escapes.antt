@@ -1,5 +1,5 @@
 -- Bytes as messages show them.
-use Rattle.std.specs.Prelude.{Bool, true, false, cond, List, [], ◌∷◌, ℕ, ◌+◌, ◌/◌, ◌%◌, ltb}
+use Rattle.std.specs.Prelude.{Bool, false, cond, List, [], ◌∷◌, ℕ, ◌+◌, ◌/◌, ◌%◌, ltb}
 
 -- 0 to 9, A to F.
 abbrev pub hex_digit : ℕ → ℕ

@@ -1,5 +1,5 @@
 -- The folder of a path.
-use Rattle.std.specs.Prelude.{cond, List, [], ℕ, zero, suc, ◌+◌, eqb, length, get_or}
+use Rattle.std.specs.Prelude.{cond, List, ℕ, zero, suc, ◌+◌, eqb, length, get_or}
 
 -- Up to the last slash of its first n bytes, with it.
 unfoldable pub folder_of : ℕ → List ℕ → ℕ

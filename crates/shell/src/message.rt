@@ -47,10 +47,8 @@ fn say_byte(b: u8) {
 
 // Bytes of a name or a file.
 pub fn say_bytes(bytes: &[u8]) {
-    let mut i = 0;
-    while i < bytes.len() {
-        say_byte(bytes[i]);
-        i += 1;
+    for b in bytes {
+        say_byte(*b);
     }
 }
 

@@ -114,7 +114,7 @@ fn none() -> Target {
 fn letter(name: &mut [u8], number: u32) {
     let mut left = number;
     let mut i = name.len();
-    let mut k = 0;
+    let mut k: u32 = 0;
     while k < 6 {
         if i == 0 {
             return;
