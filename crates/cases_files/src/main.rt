@@ -1,7 +1,6 @@
 // Cases of what programs share: words and numbers of a command, two files, and a file that is replaced.
 #![tactic(auto)]
 
-use libc::STDOUT_FILENO;
 use text::number::Number;
 
 fn print_number(k: usize) {
@@ -10,11 +9,11 @@ fn print_number(k: usize) {
     let number = text::number::parse_number(&word[..n]);
     match number {
         Number::Is(v) => {
-            io::print_decimal(STDOUT_FILENO, v);
-            io::write_all(STDOUT_FILENO, b"\n");
+            io::print_decimal(1, v);
+            io::write_all(1, b"\n");
         }
         Number::NoNumber => {
-            io::write_all(STDOUT_FILENO, b"no number\n");
+            io::write_all(1, b"no number\n");
         }
     }
 }
@@ -31,17 +30,17 @@ fn print_file(k: usize) {
     let mut buf = io::buffer();
     let f = files::pieces::fill(fd, &mut buf, 0, false);
     let total = f.total;
-    io::write_all(STDOUT_FILENO, &name[..n]);
-    io::write_all(STDOUT_FILENO, b": ");
-    io::write_all(STDOUT_FILENO, &buf[..total]);
+    io::write_all(1, &name[..n]);
+    io::write_all(1, b": ");
+    io::write_all(1, &buf[..total]);
     libc::close(fd);
 }
 
 fn replace(bytes: &[u8]) {
     if files::output::replace(b"files_cases", b"kept.txt", bytes) {
-        io::write_all(STDOUT_FILENO, b"replaced\n");
+        io::write_all(1, b"replaced\n");
     } else {
-        io::write_all(STDOUT_FILENO, b"not replaced\n");
+        io::write_all(1, b"not replaced\n");
     }
 }
 
@@ -59,10 +58,10 @@ fn main() {
         return;
     }
     if c.option {
-        io::write_all(STDOUT_FILENO, b"--all\n");
+        io::write_all(1, b"--all\n");
     }
     if c.second {
-        io::write_all(STDOUT_FILENO, b"--each\n");
+        io::write_all(1, b"--each\n");
     }
     print_number(0);
     print_number(1);

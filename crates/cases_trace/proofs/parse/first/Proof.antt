@@ -1,8 +1,0 @@
-use mathlib.Core.Path.{sym}
-use lib.Seq.{length-take-le}
-use borrow.Author.Rules.{rules}
-use Rattle.cases_trace.proofs.parse.first.Statement.{statement}
-use Rattle.cases_trace.proofs.parse.first.Tie as tie
-
-pub first_spec : {M : Type 1} → statement M
-first_spec = tie.close (tie.spec (λ c. sym (length-take-le _ _ (search rules))) (λ c. search rules) (λ c. search rules))
