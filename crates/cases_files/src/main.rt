@@ -1,11 +1,12 @@
 // Cases of what programs share: words and numbers of a command, two files, and a file that is replaced.
 #![tactic(auto)]
 
+use files::system::System;
 use text::number::Number;
 
-fn print_number(k: usize) {
+fn print_number<R: System>(rt: &R, k: usize) {
     let mut word = io::buffer();
-    let n = files::command::word(k, &mut word);
+    let n = files::command::word(rt, k, &mut word);
     let number = text::number::parse_number(&word[..n]);
     match number {
         Number::Is(v) => {
@@ -19,33 +20,32 @@ fn print_number(k: usize) {
 }
 
 // The file's name, and its first bytes.
-fn print_file(k: usize) {
+fn print_file<R: System>(rt: &R, k: usize) {
     let mut name = io::buffer();
-    let i = files::input::open(b"files_cases", k, &mut name);
-    let fd = i.fd;
+    let i = files::input::open(rt, b"files_cases", k, &mut name);
     let n = i.name;
-    if fd < 0 {
+    let Some(from) = i.from else {
         return;
-    }
+    };
     let mut buf = io::buffer();
-    let f = files::pieces::fill(fd, &mut buf, 0, false);
+    let f = files::pieces::fill(rt, &from, &mut buf, 0, false);
     let total = f.total;
     io::write_all(1, &name[..n]);
     io::write_all(1, b": ");
     io::write_all(1, &buf[..total]);
-    libc::close(fd);
 }
 
-fn replace(bytes: &[u8]) {
-    if files::output::replace(b"files_cases", b"kept.txt", bytes) {
+fn replace<R: System>(rt: &R, bytes: &[u8]) {
+    if files::output::replace(rt, b"files_cases", b"kept.txt", bytes) {
         io::write_all(1, b"replaced\n");
     } else {
         io::write_all(1, b"not replaced\n");
     }
 }
 
-fn main() {
+fn main(rt: HostRuntime) {
     let c = files::command::read_two(
+        &rt,
         b"files_cases",
         b"--all",
         b"--each",
@@ -63,15 +63,15 @@ fn main() {
     if c.second {
         io::write_all(1, b"--each\n");
     }
-    print_number(0);
-    print_number(1);
-    print_number(2);
-    print_number(3);
-    print_number(4);
-    print_file(5);
-    print_file(6);
-    replace(b"once\n");
-    print_file(7);
-    replace(b"and once more\n");
-    print_file(7);
+    print_number(&rt, 0);
+    print_number(&rt, 1);
+    print_number(&rt, 2);
+    print_number(&rt, 3);
+    print_number(&rt, 4);
+    print_file(&rt, 5);
+    print_file(&rt, 6);
+    replace(&rt, b"once\n");
+    print_file(&rt, 7);
+    replace(&rt, b"and once more\n");
+    print_file(&rt, 7);
 }
