@@ -1,13 +1,11 @@
 -- Within a hold the halves don't depend on each other: n clocks of the module are n clocks of each, and n more in its count.
 use Prim.Native.Nat.{ℕ, zero, suc, ◌+◌}
 use mathlib.Core.Bool.{Bool}
-use mathlib.Core.Path.{◌≡◌, refl, ap, ◌∙◌}
+use mathlib.Core.Path.{◌≡◌, ap}
 use native.Mathlib.Omega.{arith}
 use Rattle.steps.specs.Iterate.{iterate}
 use Rattle.sci.specs.model.Serial.{clocked}
-use Rattle.sci.specs.declared.serial.Sci.{Sci}
 use Rattle.qspi.specs.model.Queue.{clock}
-use Rattle.qspi.specs.declared.Qspi.{Qspi}
 use Rattle.qsm.specs.model.State.{with_sci, with_qspi}
 use Rattle.qsm.specs.model.Event.{clock_module, pins_of}
 use Rattle.qsm.specs.declared.state.Module.{Module}

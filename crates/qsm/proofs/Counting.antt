@@ -1,12 +1,12 @@
 -- The laws of specs/Count: a hold adds its clocks unless it is refused, and an access leaves the count. Assumes nothing.
-use mathlib.Core.Path.{◌≡◌, refl, ap, sym, ◌∙◌}
+use mathlib.Core.Path.{◌≡◌, refl, ◌∙◌}
 use mathlib.Core.Bool.{Bool, true, false, cond}
 use Prim.Native.Nat.{ℕ, ◌+◌, ◌≤◌}
 use native.Mathlib.Omega.{arith}
 use lib.Dec.{eqb}
 use Rattle.qsm.specs.model.Word.{put}
 use Rattle.qsm.specs.model.Decision.{refusal_of, permits, decide_read, stored_by, decide_stored}
-use Rattle.qsm.specs.model.Event.{done, answer_of, clock_limit, passes, after_read, read_value, refused, resets, reads, writes, does, step}
+use Rattle.qsm.specs.model.Event.{done, answer_of, clock_limit, after_read, read_value, refused, resets, reads, writes, does, step}
 use Rattle.qsm.specs.model.State.{reset_module}
 use Rattle.qsm.specs.claims.Count.{count_after, Counting}
 use Rattle.qsm.specs.declared.state.Module.{Module}
@@ -17,7 +17,6 @@ use Rattle.qsm.specs.declared.event.Access.TheVariants.{Read, Write}
 use Rattle.qsm.specs.declared.event.Event.{Event}
 use Rattle.qsm.specs.declared.event.Event.TheVariants.{Reset, Hold}
 use Rattle.qsm.specs.declared.event.Event.TheVariants as event
-use Rattle.qsm.specs.declared.event.Done.{Done}
 use Rattle.qsm.proofs.Limit.{hold_if, has_room}
 use Rattle.qsm.proofs.Splitting.{hold_counts}
 use Rattle.qsm.proofs.Stored.{state_if, write_keeps, own_keeps}

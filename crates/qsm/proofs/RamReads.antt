@@ -9,7 +9,7 @@ use lib.ListN.{length, get_or, set, length-set}
 use lib.Seq.{get_or-set_same, get_or-set_other}
 use borrow.Author.Tests.{eqb-true, eqb-false, eq-eqb, ne_eqb, ltb-true, ltb-false}
 use Rattle.steps.specs.Bits.{merge}
-use Rattle.qsm.specs.model.Map.{decode, mapped}
+use Rattle.qsm.specs.model.Map.{decode}
 use Rattle.qsm.specs.model.Queue.{peek_queue, put_queue, queue_unmodelled, queue_guarded}
 use Rattle.qsm.specs.model.Word.{peek, put, unmodelled, guarded}
 use Rattle.qsm.specs.claims.Registers.{writing, Sized, RamWrite, RamReadsBack}

@@ -1,17 +1,16 @@
 -- A hold cut into holds: its levels are taken once or again with the same outcome, and its clocks add up. Assumes nothing.
-use mathlib.Core.Path.{◌≡◌, refl, sym, ap, subst, ◌∙◌}
-use mathlib.Core.Bool.{Bool, true, false, cond, ◌||◌}
+use mathlib.Core.Path.{◌≡◌, refl, sym, ap, ◌∙◌}
+use mathlib.Core.Bool.{Bool, true, false, ◌||◌}
 use Prim.Native.Nat.{ℕ, zero, suc, ◌+◌, ◌≤◌}
 use native.Mathlib.Omega.{arith}
 use borrow.Author.Tests.{lt-ltb}
 use Rattle.steps.specs.Iterate.{iterate}
 use Rattle.steps.proofs.Iterate.{iterate_add}
-use Rattle.qsm.specs.model.Event.{done, answered, clock_limit, passes, clock_module, clocks, held, holds, does, step}
+use Rattle.qsm.specs.model.Event.{done, answered, clock_limit, passes, clock_module, clocks, held, does, step}
 use Rattle.qsm.specs.claims.Holds.{Splits, RefusedInParts, OneByOne, NoClocks, HeldInParts}
 use Rattle.qsm.specs.declared.state.Module.{Module}
 use Rattle.qsm.specs.declared.event.Event.TheVariants.{Hold}
 use Rattle.qsm.specs.declared.event.Done.{Done}
-use Rattle.qsm.specs.declared.event.Stepped.{Stepped}
 use Rattle.qsm.proofs.Clocks.{apart}
 use Rattle.qsm.proofs.Limit.{hold_if, hold_played, has_room, no_room, is_room}
 

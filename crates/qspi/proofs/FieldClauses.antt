@@ -1,7 +1,7 @@
 -- The queue's fields by their places, and what they mean. Assumes nothing.
 use mathlib.Core.Path.{◌≡◌, refl, ap, ◌∙◌}
 use mathlib.Core.Bool.{Bool, true, false}
-use Prim.Native.Nat.{ℕ, zero, suc, ◌+◌, ◌*◌, ◌/◌, ◌%◌, ◌^◌, ◌<◌}
+use Prim.Native.Nat.{ℕ, zero, suc, ◌+◌, ◌*◌, ◌/◌, ◌%◌, ◌^◌}
 use native.Mathlib.Omega.{arith}
 use lib.Dec.{eqb}
 use borrow.Author.Tests.{eq-eqb, ne_eqb, lt-leb}
@@ -10,8 +10,6 @@ use Rattle.qspi.specs.model.Fields.{bits_field, dsckl, dtl, bits_of, pre_delay, 
 use Rattle.qspi.specs.model.Queue.{clock, ready}
 use Rattle.qspi.specs.claims.Run.{run, spbr_in}
 use Rattle.qspi.specs.claims.FieldClauses.{Placed, Meant, NoneStarts, FieldClauses}
-use Rattle.qspi.specs.declared.Qspi.{Qspi}
-use Rattle.qspi.specs.declared.Pins.{Pins}
 use Rattle.qspi.proofs.Edges.{no_fault}
 use Rattle.qspi.proofs.Quiet.{clock_waiting}
 

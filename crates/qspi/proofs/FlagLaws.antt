@@ -10,7 +10,7 @@ use Rattle.qspi.specs.model.Spsr.{falls, raised, only_spif, only_modf, halta_if}
 use Rattle.qspi.specs.model.Registers.{reset, with_spcr1, switched, write_spcr1}
 use Rattle.qspi.specs.model.Parts.{with_registers}
 use Rattle.qspi.specs.model.Queue.{clock, followed}
-use Rattle.qspi.specs.claims.FlagLaws.{Flag, SPIF, MODF, HALTA, Act, clocked, status_seen, spcr0_put, spcr1_put, spcr2_put, spcr3_spsr_put, receive_put, transmit_put, command_put, member, is_set, is_seen, FlagShows, FlagFalls, FallsOnly, ReadSees, SeenOnly, SeenLasts, ResetForgets, CptqpStays}
+use Rattle.qspi.specs.claims.FlagLaws.{Flag, SPIF, MODF, HALTA, clocked, status_seen, spcr0_put, spcr1_put, spcr2_put, spcr3_spsr_put, receive_put, transmit_put, command_put, member, is_set, FlagShows, FlagFalls, FallsOnly, ReadSees, SeenOnly, SeenLasts, ResetForgets, CptqpStays}
 use Rattle.qspi.specs.declared.Qspi.{Qspi}
 use Rattle.qspi.specs.declared.Pins.{Pins}
 use Rattle.qspi.specs.declared.spsr.Flags.{Flags}

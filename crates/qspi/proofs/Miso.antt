@@ -1,6 +1,6 @@
 -- What an entry reads on MISO, by its assignment and direction. Assumes nothing.
 use mathlib.Core.Path.{◌≡◌, refl, ap, ◌∙◌}
-use mathlib.Core.Bool.{Bool, true, false}
+use mathlib.Core.Bool.{Bool, false}
 use Prim.Native.Nat.{ℕ, zero, suc, ◌+◌, ◌*◌}
 use lib.ListN.{set}
 use Rattle.steps.specs.Bits.{digit}

@@ -1,13 +1,13 @@
 -- A write touching NEWQP within an entry that goes on. Assumes nothing.
-use mathlib.Core.Path.{◌≡◌, refl, sym, ap, subst, ◌∙◌}
-use mathlib.Core.Bool.{Bool, true, false, true≢false}
+use mathlib.Core.Path.{◌≡◌, sym, ap, subst, ◌∙◌}
+use mathlib.Core.Bool.{true, true≢false}
 use Prim.Native.Nat.{ℕ, zero, suc, ◌+◌, ◌-◌, ◌*◌, ◌<◌}
 use native.Mathlib.Omega.{arith}
 use lib.Dec.{ltb}
 use borrow.Author.Tests.{ltb-true, ltb-false}
 use Rattle.qspi.specs.model.Registers.{write_spcr2}
-use Rattle.qspi.specs.model.Queue.{begun, ready}
-use Rattle.qspi.specs.claims.Run.{run, bits_in, edge_clock, gap, last_clock, length_in, delay_in}
+use Rattle.qspi.specs.model.Queue.{begun}
+use Rattle.qspi.specs.claims.Run.{run, bits_in, edge_clock, gap, last_clock, length_in}
 use Rattle.qspi.specs.claims.Laws.{Starting, Calm, goes_on}
 use Rattle.qspi.specs.claims.Clauses.{NoClock1, Alike, PendingWins}
 use Rattle.qspi.specs.declared.Qspi.{Qspi}

@@ -11,11 +11,11 @@ use Rattle.sci.specs.model.Status.{has, mark_seen, fall_seen}
 use Rattle.sci.specs.model.Control.{RE}
 use Rattle.sci.specs.model.Receiver.{outcome, received}
 use Rattle.sci.specs.model.Transmitter.{sent}
-use Rattle.sci.specs.claims.Line.{read, read_status, fresh_if, delivers}
+use Rattle.sci.specs.claims.Line.{read_status, fresh_if, delivers}
 use Rattle.sci.specs.claims.Alike.{Same}
 use Rattle.sci.specs.model.Account.{most, more, counting}
 use Rattle.sci.specs.model.Serial.{reset_sci, active, due}
-use Rattle.sci.specs.claims.History.{Step, reset, clock, reads, writesSccr0, writesSccr1, writesScdr, step, run, receiving}
+use Rattle.sci.specs.claims.History.{Step, reset, clock, reads, writesSccr0, writesSccr1, writesScdr, step, run}
 use Rattle.sci.specs.claims.Overrun.{Mark, sample_marks, look_marks, delivery_marks, step_marks, log, has_reset, open_run}
 use Rattle.sci.specs.claims.Balance.{Balanced, happens, Balance}
 use Rattle.sci.specs.declared.status.Status.{Status}

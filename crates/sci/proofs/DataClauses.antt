@@ -5,7 +5,7 @@ use mathlib.Core.Bool.{Bool, true, false, cond, not, ◌&&◌}
 use Prim.Native.Nat.{ℕ, zero, suc, ◌/◌, ◌%◌, ◌^◌, ◌≤◌, ◌<◌}
 use native.Mathlib.Omega.{arith}
 use native.Mathlib.Nat.{div-eq_of_lt}
-use lib.Dec.{eqb, leb}
+use lib.Dec.{eqb}
 use lib.Pow.{pow_mono}
 use borrow.Author.Tests.{ne_eqb, lt-leb}
 use Rattle.steps.specs.Bits.{bit, merge}
@@ -16,7 +16,6 @@ use Rattle.sci.specs.model.Serial.{data_written}
 use Rattle.sci.specs.claims.DataClauses.{receive_flag, transmit_flag, Fall, WriteClauses, DataClauses}
 use Rattle.sci.specs.declared.flags.Flags.{Flags}
 use Rattle.sci.specs.declared.serial.Sci.{Sci}
-use Rattle.sci.specs.declared.status.Status.{Status}
 use Rattle.sci.proofs.Flagged.{is_set, is_marked, set_fallSeen, marked_fallSeen}
 
 each_flag : (P : ℕ → Type 0) → P 0 → P 1 → P 2 → P 3 → P 4 → P 5 → P 6 → P 7 → P 8 → ((k : ℕ) → 8 < k → P k) → (k : ℕ) → P k

@@ -1,16 +1,15 @@
 -- The noise figure of a frame is the sum over its samples, by the walk through its bits.
-use Prim.Native.Nat.{ℕ, zero, suc, ◌+◌, ◌-◌, ◌*◌, ◌≤◌, ◌<◌}
+use Prim.Native.Nat.{ℕ, zero, suc, ◌+◌, ◌-◌, ◌*◌, ◌≤◌}
 use mathlib.Core.Bool.{Bool, true, false, true≢false}
 use mathlib.Core.List.{List, [], ◌∷◌, ◌++◌}
-use mathlib.Core.Path.{◌≡◌, refl, ap, sym, ◌∙◌}
+use mathlib.Core.Path.{◌≡◌, refl, ap, ◌∙◌}
 use native.Mathlib.Omega.{arith}
-use lib.Dec.{ltb}
-use lib.ListN.{length, drop}
+use lib.ListN.{length}
 use Rattle.steps.specs.Bits.{digit}
-use Rattle.sci.specs.model.Bits.{vote, majority, disagreed, ones_of}
+use Rattle.sci.specs.model.Bits.{majority, disagreed, ones_of}
 use Rattle.sci.specs.model.Framer.{more, searching, begun, ends, frame_of, collected, fixed, framed}
-use Rattle.sci.specs.claims.Levels.{end_sample, framer_after, Unmoved}
-use Rattle.sci.specs.claims.Figure.{rt, start_ones, disagreements, figure, Stands, FrameFigure}
+use Rattle.sci.specs.claims.Levels.{framer_after, Unmoved}
+use Rattle.sci.specs.claims.Figure.{disagreements, figure, Stands, FrameFigure}
 use Rattle.sci.specs.declared.framer.Framer.{Framer}
 use Rattle.sci.proofs.Votes.{disagreed_small, digit_small}
 use Rattle.sci.proofs.Walk.{Walk, bit_at, walk_start, walk_bit, walk_stop, along}

@@ -1,7 +1,7 @@
 -- The laws of the noise figure: what it makes of NF and of no other flag, and what becomes of the figure beside SCDR.
 use Prim.Native.Nat.{ℕ, zero, suc, ◌+◌}
 use mathlib.Core.Bool.{Bool, true, false, cond, not, ◌&&◌, ◌||◌, and-true, and-false, or-false, false≢true}
-use mathlib.Core.List.{List, [], ◌∷◌, ◌++◌}
+use mathlib.Core.List.{List, [], ◌∷◌}
 use mathlib.Core.Path.{◌≡◌, refl, ap, sym, ◌∙◌}
 use native.Mathlib.Omega.{arith}
 use lib.Dec.{eqb, ltb}
@@ -19,14 +19,13 @@ use Rattle.sci.specs.model.Transmitter.{sent}
 use Rattle.sci.specs.model.Parts.{after_sent}
 use Rattle.sci.specs.model.Serial.{active, due, heard, sampled, prescaled, clocked, sccr1_word, stopped, with_sccr1, data_written, sccr0_set, wrote_sccr0, wrote_sccr1, sccr0_guarded, sccr1_guarded}
 use Rattle.sci.specs.claims.History.{Step, reset, clock, reads, writesSccr0, writesSccr1, writesScdr, step}
-use Rattle.sci.specs.claims.Figure.{rt, start_ones, disagreements, figure, mixed, any_mixed, noisy, enters, with_sum, figure_after, noisiest, Figures}
+use Rattle.sci.specs.claims.Figure.{rt, start_ones, disagreements, figure, any_mixed, noisy, enters, with_sum, figure_after, noisiest, Figures}
 use Rattle.sci.specs.claims.Levels.{Unmoved}
 use Rattle.sci.specs.declared.status.Status.{Status}
 use Rattle.sci.specs.declared.framer.Framer.{Framer}
 use Rattle.sci.specs.declared.framer.Frame.{Frame}
 use Rattle.sci.specs.declared.receiver.Receiver.{Receiver}
 use Rattle.sci.specs.declared.receiver.Outcome.{Outcome}
-use Rattle.sci.specs.declared.receiver.Received.{Received}
 use Rattle.sci.specs.declared.serial.Sci.{Sci}
 use Rattle.sci.proofs.Membership.{and_left, and_right}
 use Rattle.sci.proofs.Flagged.{is_set, has_flag, set_raise, set_raiseIf, set_fallIf, raise_keeps}

@@ -15,7 +15,7 @@ use Rattle.sci.specs.model.Transmitter.{sent}
 use Rattle.sci.specs.model.Parts.{with_sleep}
 use Rattle.sci.specs.model.Serial.{sccr1_word, with_sccr1, stopped, wrote_sccr1}
 use Rattle.sci.specs.claims.Line.{read}
-use Rattle.sci.specs.claims.Wire.{Access, read_status, read_data, write_data, write_control, accessed, Same, hearing}
+use Rattle.sci.specs.claims.Wire.{Access, read_status, read_data, write_data, write_control, accessed, Same}
 use Rattle.sci.specs.declared.status.Status.{Status}
 use Rattle.sci.specs.declared.receiver.Received.{Received}
 use Rattle.sci.specs.declared.transmitter.Transmitter.{Transmitter}

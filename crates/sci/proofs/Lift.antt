@@ -8,7 +8,7 @@ use Rattle.sci.specs.claims.Line.{shown, no_flag, Ones, samples_in, resync_sampl
 use Rattle.sci.specs.model.Serial.{reset_sci}
 use Rattle.sci.specs.claims.History.{Step, reads, step, run, ops, watched, Unbroken}
 use Rattle.sci.specs.claims.Overrun.{log, Overrun}
-use Rattle.sci.specs.claims.Demand3.{Recovers, Compared}
+use Rattle.sci.specs.claims.Demand3.{Compared}
 use Rattle.sci.specs.declared.serial.Sci.{Sci}
 use Rattle.sci.proofs.History.{run_append}
 use Rattle.sci.proofs.Follow.{run_sccr1}

@@ -2,20 +2,17 @@
 -- Assumes nothing.
 use mathlib.Core.Path.{◌≡◌, refl, ap, sym, subst, ◌∙◌}
 use mathlib.Core.Bool.{Bool, true, false, cond, not, ◌&&◌, ◌||◌, and-false}
-use mathlib.Core.List.{List, [], ◌∷◌, ◌++◌}
-use Prim.Native.Nat.{ℕ, suc, ◌+◌, ◌-◌, ◌*◌, ◌/◌, ◌%◌, ◌^◌, ◌≤◌, ◌<◌}
+use Prim.Native.Nat.{ℕ, suc, ◌+◌, ◌-◌, ◌/◌, ◌%◌, ◌^◌, ◌≤◌, ◌<◌}
 use native.Mathlib.Omega.{arith}
 use native.Mathlib.Nat.{div-lt_iff_lt-mul, div-eq_of_lt, add-div_right, zero-div, pow-suc}
 use lib.Pow.{pow_pos}
 use Rattle.steps.specs.Bits.{digit}
 use lib.Dec.{eqb, leb, ltb}
-use lib.ListN.{length, take}
-use borrow.Author.Tests.{lt-ltb, le-ltb, le-leb, lt-leb, eq-eqb, ne_eqb, eqb-true, eqb-false}
-use Rattle.sci.specs.model.Framer.{searching, begun, begins, searched, start_bit, data_bit, stop_bit, in_bit, collected, next_rt, fixed, last_bit, after_one, near_this, early_fall, late_fall, adjusts, adjusted, framed}
+use borrow.Author.Tests.{lt-ltb, le-leb, lt-leb, ne_eqb, eqb-true, eqb-false}
+use Rattle.sci.specs.model.Framer.{begins, searched, start_bit, data_bit, stop_bit, in_bit, next_rt, fixed, after_one, near_this, early_fall, late_fall, adjusts, adjusted, framed}
 use Rattle.sci.specs.claims.Levels.{low_bits, framer_after}
 use Rattle.sci.specs.claims.Moves.{rt1_with, Falls, Rule, LastDecided, lasting, Moves}
 use Rattle.sci.specs.declared.framer.Framer.{Framer}
-use Rattle.sci.proofs.Adjusting.{adjusting}
 use Rattle.sci.proofs.Frames.{by_cond}
 use Rattle.sci.proofs.Walk.{unmoved}
 use Rattle.sci.proofs.Heard.{exact_rate}

@@ -17,7 +17,6 @@ use Rattle.sci.proofs.Sending.{shows, low_length}
 use Rattle.sci.proofs.Stages.{Stage, waiting, free, stages}
 use Rattle.sci.proofs.Going.{Rested}
 use Rattle.sci.proofs.Arriving.{stop_level}
-use Rattle.sci.proofs.Train.{both}
 use Rattle.sci.proofs.Heeding.{heeded}
 use Rattle.sci.proofs.Timing.{receiver_access, receiver_ends, receiver_rests_holds}
 use Rattle.sci.proofs.Pace.{aligned, earlier, SenderOn, sender_clock, sender_touched, ReceiverOn, receiver_clock}

@@ -10,7 +10,7 @@ use Rattle.sci.specs.model.Flags.{receive_flags}
 use Rattle.sci.specs.model.Control.{M, PE, PT, bits_of, frame_samples}
 use Rattle.sci.specs.model.Bits.{parity_bit}
 use Rattle.sci.specs.model.Framer.{ends, frame_of, framed}
-use Rattle.sci.specs.model.Receiver.{start_state, three, takes, full, idle_count, outcome, receiver_after, received}
+use Rattle.sci.specs.model.Receiver.{start_state, three, takes, idle_count, outcome, receiver_after, received}
 use Rattle.sci.specs.claims.Line.{Op, sample, read, act, acts, looked, fetched, read_status}
 use Rattle.sci.specs.claims.Sound.{span, togo, Fits, Sound}
 use Rattle.sci.specs.declared.status.Status.{Status}

@@ -8,7 +8,7 @@ use Rattle.sci.specs.model.Flags.{RAF}
 use Rattle.sci.specs.model.Control.{RE, sccr0_bits}
 use Rattle.sci.specs.claims.Alike.{Same}
 use Rattle.sci.specs.model.Serial.{sccr1_word, data_written, wrote_sccr0, wrote_sccr1, sccr0_guarded, sccr1_guarded, stopped, with_sccr1}
-use Rattle.sci.specs.claims.History.{Step, writesSccr0, writesSccr1, writesScdr, step}
+use Rattle.sci.specs.claims.History.{writesSccr0, writesSccr1, writesScdr, step}
 use Rattle.sci.specs.declared.serial.Sci.{Sci}
 use Rattle.sci.proofs.Frames.{by_cond}
 use Rattle.sci.proofs.Same.{same_refl, same_loaded, outside_fall}

@@ -1,6 +1,6 @@
 -- Document 01, events: a hold gives pin levels, an RXD level and a number of clocks. What it leaves, its count of clocks included, does not
 -- depend on how its clocks are cut into holds, where it is not refused 10 (02, L5 and L9).
-use Rattle.std.specs.Prelude.{◌≡◌, Bool, true, false, ◌||◌, ℕ, suc, ◌+◌}
+use Rattle.std.specs.Prelude.{◌≡◌, Bool, false, ◌||◌, ℕ, suc, ◌+◌}
 use Rattle.steps.specs.Iterate.{iterate}
 use Rattle.qsm.specs.model.Event.{passes, step}
 use Rattle.qsm.specs.declared.state.Module.{Module}

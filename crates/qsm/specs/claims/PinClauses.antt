@@ -9,7 +9,6 @@ use Rattle.qspi.specs.declared.Qspi.{Qspi}
 use Rattle.qsm.specs.model.Event.{passes, step}
 use Rattle.qsm.specs.claims.StatusFlags.{read_at}
 use Rattle.qsm.specs.declared.state.Module.{Module}
-use Rattle.qsm.specs.declared.event.Access.{Access}
 use Rattle.qsm.specs.declared.event.Event.{Event}
 use Rattle.qsm.specs.declared.event.Event.TheVariants.{Reset, Hold}
 use Rattle.qsm.specs.declared.event.Event.TheVariants as event

@@ -1,6 +1,6 @@
 -- Document 01: events and answers. An event is a reset, a hold or an access, and an access is a read or a write. With document 02, L9: the
 -- module counts its clocks since reset, and an answer shows the count.
-use Rattle.std.specs.Prelude.{Bool, true, false, cond, ℕ, suc, ◌+◌, ◌-◌, ◌^◌, ltb}
+use Rattle.std.specs.Prelude.{Bool, cond, ℕ, suc, ◌+◌, ◌-◌, ◌^◌, ltb}
 use Rattle.steps.specs.Iterate.{iterate}
 use Rattle.sci.specs.model.Serial.{clocked}
 use Rattle.sci.specs.model.Serial as serial

@@ -1,5 +1,5 @@
 -- Document 01, Pins: 0 to 7 are MISO, MOSI, SCK, PCS0 to PCS3, TXD.
-use Rattle.std.specs.Prelude.{Bool, cond, ℕ, ◌-◌, ◌*◌, ◌%◌}
+use Rattle.std.specs.Prelude.{cond, ℕ, ◌-◌, ◌*◌, ◌%◌}
 use Rattle.std.specs.Int.Bits.{bit_and, bit_or}
 use Rattle.sci.specs.model.Serial.{txd_driven, txd}
 use Rattle.qspi.specs.model.Outputs.{enabled, sck, mosi, pcs}

@@ -1,5 +1,4 @@
 -- Document 01, Register map: the module's own registers beside its two halves, and the values after a reset.
-use Rattle.std.specs.Prelude.{ℕ}
 use Rattle.sci.specs.model.Serial.{reset_sci}
 use Rattle.sci.specs.declared.serial.Sci.{Sci}
 use Rattle.qspi.specs.model.Registers.{reset}

@@ -1,7 +1,7 @@
 -- Clauses of the rules on the queue, said over its writes, reads and clocks and not as the definitions say them.
 use Rattle.std.specs.Prelude.{◌≡◌, Bool, true, false, not, ◌&&◌, ◌||◌, ℕ, ◌+◌, ◌-◌, ◌/◌, ◌%◌, ◌≤◌, ◌<◌, leb, get_or, set}
 use Rattle.steps.specs.Bits.{bit}
-use Rattle.qspi.specs.model.Fields.{cpol, cpha, spe, newqp, halt}
+use Rattle.qspi.specs.model.Fields.{cpol, cpha, newqp, halt}
 use Rattle.qspi.specs.model.Registers.{spcr2_word, write_spcr1, write_spcr2}
 use Rattle.qspi.specs.model.Queue.{entry_at, begun, clock}
 use Rattle.qspi.specs.model.Outputs.{enabled, sck, mosi, pcs, asks}

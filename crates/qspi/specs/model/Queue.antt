@@ -2,7 +2,7 @@
 use Rattle.std.specs.Prelude.{Bool, true, false, cond, not, ◌&&◌, ℕ, ◌+◌, ◌*◌, ◌%◌, eqb, leb, get_or}
 use Rattle.steps.specs.Bits.{bit}
 use Rattle.qspi.specs.model.Fields.{mstr, spbr, spe, wren, wrto, endqp, newqp, halt, bits_of, delay_after}
-use Rattle.qspi.specs.model.Parts.{with_registers, with_spsr, with_next, with_entry}
+use Rattle.qspi.specs.model.Parts.{with_spsr, with_next, with_entry}
 use Rattle.qspi.specs.model.Spsr.{raised, only_spif, only_modf, halta_if, with_cptqp}
 use Rattle.qspi.specs.model.Registers.{disabled}
 use Rattle.qspi.specs.model.Ram.{with_received}

@@ -1,5 +1,5 @@
 -- Document 02, L3: sampling points do move. Its rule as laws of one sample, in any state, told by RT and by what stays; and lines at exact rate.
-use Rattle.std.specs.Prelude.{Bool, true, false, not, ◌&&◌, List, [], ◌∷◌, ◌++◌, ◌≡◌, ℕ, suc, ◌-◌, ◌^◌, ◌≤◌, ◌<◌, length, take, replicate}
+use Rattle.std.specs.Prelude.{Bool, true, false, List, [], ◌∷◌, ◌++◌, ◌≡◌, ℕ, suc, ◌-◌, ◌^◌, ◌≤◌, ◌<◌, length, take, replicate}
 use Rattle.sci.specs.model.Framer.{searching, begun, ends, frame_of, collected, next_rt, fixed, last_bit, framed}
 use Rattle.sci.specs.claims.Levels.{frame_levels, framer_after, end_sample, low_bits, Unmoved}
 use Rattle.sci.specs.declared.framer.Framer.{Framer}

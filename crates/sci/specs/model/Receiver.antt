@@ -1,5 +1,5 @@
 -- Document 01, Receiver: what a sample makes happen, and what it leaves. `taken` and `lost` are the paper's words for an ended frame.
-use Rattle.std.specs.Prelude.{Bool, true, false, cond, not, ◌&&◌, ◌||◌, ℕ, ◌+◌, ◌-◌, min, eqb, ltb}
+use Rattle.std.specs.Prelude.{Bool, false, cond, not, ◌&&◌, ◌||◌, ℕ, ◌+◌, min, eqb, ltb}
 use Rattle.sci.specs.model.Flags.{PF, FE, NF, OR, IDLE, RAF, RDRF}
 use Rattle.sci.specs.model.Status.{has, raise, raise_if, fall_if}
 use Rattle.sci.specs.model.Control.{ILT, PT, PE, M, WAKE, bits_of, frame_samples}

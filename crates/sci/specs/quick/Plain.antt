@@ -1,5 +1,5 @@
 -- Samples that change little, and what they change. (proofs/Plain shows that `received` and `sent` say the same there.)
-use Rattle.std.specs.Prelude.{Bool, true, false, cond, not, ◌&&◌, ◌||◌, ℕ, ◌+◌, ◌-◌, ◌%◌, eqb}
+use Rattle.std.specs.Prelude.{Bool, true, false, cond, not, ◌&&◌, ◌||◌, ℕ, ◌-◌, ◌%◌, eqb}
 use Rattle.steps.specs.Bits.{bit}
 use Rattle.sci.specs.model.Control.{frame_samples}
 use Rattle.sci.specs.model.Framer.{at_rt, next_rt}

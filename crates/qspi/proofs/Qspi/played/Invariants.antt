@@ -1,5 +1,4 @@
 use mathlib.Core.Path.{◌≡◌}
-use mathlib.Core.Logic.{⊎_elim}
 use Prim.Native.Nat.{◌%◌, ◌≤◌, ◌<◌}
 use Rattle.steps.specs.Iterate.{iterate}
 use Rattle.qspi.specs.quick.Falls.{edges_fallen}

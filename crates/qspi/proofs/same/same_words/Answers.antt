@@ -1,5 +1,4 @@
 use mathlib.Core.Path.{refl}
-use Prim.Native.Nat.{◌-◌}
 use mir.Syntax.{w16}
 use borrow.Kind.Array.{e_int, good_length}
 use borrow.Author.Rules.{rules}

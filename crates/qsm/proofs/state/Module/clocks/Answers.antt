@@ -24,8 +24,8 @@ returns c =
     let n = c.args.n in
     let played : c.if-enabled.self ≡ with_qspi m (iterate n (λ q. clock q (pins_of m)) m.qspi) =
     elim c.if-enabled.branch [
-      then-enabled w ↦ w.self-is ∙ ap (with_qspi m) w.clocks-queue.ensures
+      | then-enabled w ↦ w.self-is ∙ ap (with_qspi m) w.clocks-queue.ensures
       | else-enabled w ↦ w.self-is ∙ ap (with_qspi m)
-    (sym (iterate_fixed n (λ q. clock q (pins_of m)) m.qspi (clock_off m.qspi (pins_of m) (sym c.enabled.ensures ∙ w.if-enabled.false))))
+          (sym (iterate_fixed n (λ q. clock q (pins_of m)) m.qspi (clock_off m.qspi (pins_of m) (sym c.enabled.ensures ∙ w.if-enabled.false))))
     ] in
     rw (c.clocks-serial.ensures, played, apart)

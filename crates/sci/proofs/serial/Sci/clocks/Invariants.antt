@@ -1,6 +1,5 @@
-use Prim.Native.Nat.{◌-◌, ◌≤◌}
+use Prim.Native.Nat.{◌≤◌}
 use mathlib.Core.Path.{◌≡◌}
-use mathlib.Core.Logic.{⊎_elim}
 use Rattle.steps.specs.Iterate.{iterate}
 use Rattle.sci.specs.model.Serial.{clocked}
 use Rattle.sci.specs.quick.Quiet.{quiet}
