@@ -6,14 +6,13 @@ use Rattle.tool_index.specs.Claims.{Example}
 use Rattle.tool_index.proofs.Origin.{marks_are, none_missing}
 use Rattle.tool_index.proofs.Lawful.{builds, finds, near, behind, extends, keeps_old}
 use Rattle.tool_index.proofs.InPieces.{in_pieces, walk_on}
-use Rattle.tool_index.proofs.claims.shown.Statement.{statement}
-use Rattle.tool_index.proofs.claims.shown.Tie as tie
+use Rattle.tool_index.proofs.claims.shown.Goals as goal
 
 example : Example
 unfolding records_for bytes_of resets_in marks_from built looked_up
 example = record { index = refl; second = refl; third = refl; full = refl }
 
-returns : tie.Need-returns
+pub returns : goal.returns
 returns c = (
   refl,
   record {
@@ -30,6 +29,3 @@ returns c = (
     example = example;
   },
 )
-
-pub shown-spec : {M : Type 1} → statement M
-shown-spec = tie.close (tie.spec returns)
