@@ -1,10 +1,9 @@
 use mathlib.Core.Path.{refl}
 use Rattle.claims_index.proofs.Marks.{by_walk, refused, not_refused, limit, found}
 use Rattle.claims_index.proofs.Cases.{cases}
-use Rattle.claims_index.proofs.shown.Statement.{statement}
-use Rattle.claims_index.proofs.shown.Tie as tie
+use Rattle.claims_index.proofs.shown.Goals as goal
 
-returns : tie.Need-returns
+pub returns : goal.returns
 returns c = (
   refl,
   record {
@@ -16,6 +15,3 @@ returns c = (
     cases = cases;
   },
 )
-
-pub shown-spec : {M : Type 1} → statement M
-shown-spec = tie.close (tie.spec returns)
