@@ -1,12 +1,12 @@
 -- A whole trace is given back, record by record. Assumes nothing.
-use mathlib.Core.Path.{◌≡◌, refl, ap, sym, ◌∙◌}
-use mathlib.Core.Bool.{Bool, true, false, cond}
+use mathlib.Core.Path.{◌≡◌, refl, ap, ◌∙◌}
+use mathlib.Core.Bool.{true, false}
 use mathlib.Core.Logic.{inl, inr}
 use mathlib.Core.List.{List, [], ◌∷◌, ◌++◌, append-nil, append_assoc}
-use Prim.Native.Nat.{ℕ, zero, suc, ◌+◌, ◌-◌, ◌<◌, ◌≤◌}
+use Prim.Native.Nat.{ℕ, zero, suc, ◌+◌, ◌<◌, ◌≤◌}
 use native.Mathlib.Omega.{arith}
-use lib.Dec.{eqb, ltb}
-use lib.ListN.{length, drop, length-append}
+use lib.Dec.{ltb}
+use lib.ListN.{length, length-append}
 use lib.Seq.{drop-append_seam}
 use borrow.Author.Tests.{ne_eqb, ltb-true}
 use Rattle.qsm.specs.declared.event.Access.TheVariants.{Read, Write}
@@ -14,12 +14,11 @@ use Rattle.qsm.specs.declared.event.Event.{Event}
 use Rattle.qsm.specs.declared.event.Event.TheVariants.{Reset, Hold}
 use Rattle.qsm.specs.declared.event.Event.TheVariants as events
 use Rattle.trace.specs.Trace.{reset_kind, hold_kind, long_hold_kind}
-use Rattle.text.specs.Record.{record_line}
 use Rattle.tool_assemble.specs.Encode.{record_bytes}
 use Rattle.tool_assemble.specs.Scan.{blanks_from, closed}
 use Rattle.tool_assemble.specs.Item.{item, unblanked}
 use Rattle.claims_assembling.specs.Laws.{Fits, printed}
-use Rattle.claims_assembling.specs.Traces.{Whole, none, more, shown_from, shown, made, after, assembled_from, assembled, TracesGiveBack, sample}
+use Rattle.claims_assembling.specs.Traces.{Whole, none, more, shown_from, made, after, assembled_from, TracesGiveBack, sample}
 use Rattle.claims_assembling.proofs.Records.{lines_give_back, bytes_give_back}
 use Rattle.claims_assembling.proofs.Texts.{clear, parts, printed_clear}
 

@@ -1,16 +1,16 @@
 -- Digits that `text` writes, read back. Assumes nothing.
-use mathlib.Core.Path.{◌≡◌, refl, sym, ap, ◌∙◌}
+use mathlib.Core.Path.{◌≡◌, refl, ◌∙◌}
 use mathlib.Core.Bool.{Bool, true, false, cond}
 use mathlib.Core.List.{List, [], ◌∷◌, ◌++◌, append_assoc}
 use Prim.Native.Nat.{ℕ, zero, suc, ◌+◌, ◌-◌, ◌*◌, ◌/◌, ◌%◌, ◌^◌, ◌<◌, ◌≤◌}
 use native.Mathlib.Nat.{pow-suc}
 use native.Mathlib.Omega.{arith}
-use lib.Dec.{eqb, ltb}
+use lib.Dec.{ltb}
 use lib.ListN.{length, get_or, length-append}
-use borrow.Author.Tests.{lt-ltb, le-ltb, ne_eqb, ltb-true, ltb-false}
+use borrow.Author.Tests.{lt-ltb, le-ltb, ltb-true, ltb-false}
 use Rattle.text.specs.Digits.{decimal, decimal_digit, hex_digit, hex_byte}
 use Rattle.text.proofs.Decimal.{decimal_none, decimal_one, decimal_more}
-use Rattle.tool_assemble.specs.Scan.{is_blank, blanks_from, digit_of, takes, digits}
+use Rattle.tool_assemble.specs.Scan.{digit_of, takes, digits}
 use Rattle.tool_assemble.specs.Item.{fronted_from}
 
 -- ---- one digit

@@ -1,11 +1,10 @@
 -- The clocks of a text's bits end where the next bit begins. Assumes nothing.
-use mathlib.Core.Path.{◌≡◌, refl}
-use Prim.Native.Nat.{ℕ, zero, suc, ◌+◌, ◌-◌, ◌*◌, ◌/◌, ◌%◌, ◌<◌, ◌≤◌}
+use mathlib.Core.Path.{◌≡◌}
+use Prim.Native.Nat.{ℕ, zero, suc, ◌+◌, ◌*◌, ◌/◌, ◌<◌, ◌≤◌}
 use native.Mathlib.Nat.{div-eq_of_lt, le-div_iff_mul-le, div-mul-le_self, add-mul}
 use native.Mathlib.Omega.{arith}
 use borrow.Author.Tests.{ne_eqb}
-use Rattle.tool_assemble.specs.Sent.{edge, bit_clocks}
-use Rattle.tool_assemble.specs.declared.sent.Sent.{Sent}
+use Rattle.tool_assemble.specs.Sent.{edge}
 use Rattle.claims_assembling.specs.Traces.{clocks_of, EdgesKept}
 
 below : (a b k : ℕ) → 0 < k → a ≤ b → a / k ≤ b / k

@@ -1,23 +1,23 @@
 -- The line of a hold is read back. Assumes nothing.
-use mathlib.Core.Path.{◌≡◌, refl, sym, ap, ◌∙◌}
+use mathlib.Core.Path.{◌≡◌, refl, ap, ◌∙◌}
 use mathlib.Core.Logic.{inl, inr}
 use mathlib.Core.Bool.{Bool, true, false, cond}
 use mathlib.Core.List.{List, [], ◌∷◌, ◌++◌, append-nil}
-use Prim.Native.Nat.{ℕ, ◌+◌, ◌/◌, ◌%◌, ◌<◌, ◌≤◌, ◌^◌}
+use Prim.Native.Nat.{ℕ, ◌/◌, ◌%◌, ◌<◌, ◌≤◌, ◌^◌}
 use native.Mathlib.Omega.{arith}
 use lib.Dec.{eqb}
 use lib.ListN.{length, get_or}
 use Rattle.qsm.specs.declared.event.Event.TheVariants.{Reset, Hold}
 use Rattle.trace.specs.Trace.{reset_kind, hold_kind, long_hold_kind}
 use Rattle.text.specs.Digits.{ascii, decimal, hex_byte}
-use Rattle.text.specs.Record.{long, hold, event}
-use Rattle.tool_assemble.specs.Scan.{digit_of, takes, digits, limit, numeral, blanks_from, closed, literal, element, scan_from}
-use Rattle.tool_assemble.specs.Item.{better, stuck, hold_item, hold_of, hold_pattern, long_hold_pattern, holds, reads, writes, reset_item, line_item, access_item, entries, item}
+use Rattle.text.specs.Record.{hold, event}
+use Rattle.tool_assemble.specs.Scan.{takes, digits, limit, numeral, blanks_from, closed, literal, element, scan_from}
+use Rattle.tool_assemble.specs.Item.{hold_item, hold_pattern, long_hold_pattern, holds, reads, writes, reset_item, line_item, access_item, entries, item}
 use Rattle.tool_assemble.specs.declared.scan.Numbers.{Numbers}
 use Rattle.tool_assemble.specs.declared.scan.Found.{Found}
 use Rattle.tool_assemble.specs.declared.item.Item.TheVariants.{Record, Bad}
 use Rattle.tool_assemble.specs.declared.item.Fault.TheVariants.{NotUnderstood}
-use Rattle.claims_assembling.specs.Laws.{HoldsGiveBack, ResetsGiveBack, printed}
+use Rattle.claims_assembling.specs.Laws.{HoldsGiveBack, ResetsGiveBack}
 use Rattle.claims_assembling.proofs.Digits.{hex_least, decimal_first}
 use Rattle.claims_assembling.proofs.Steps.{bytes_step, gap_step, number_step, push, found, pins_read, decimal_field}
 use Rattle.claims_assembling.proofs.Lines.{printed_is, numbered}

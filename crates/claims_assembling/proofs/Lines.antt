@@ -1,10 +1,10 @@
 -- The number in front of a record is passed over. Assumes nothing.
-use mathlib.Core.Path.{◌≡◌, refl, sym, ap, ◌∙◌}
-use mathlib.Core.Bool.{Bool, true, false, cond}
+use mathlib.Core.Path.{◌≡◌, refl, ◌∙◌}
+use mathlib.Core.Bool.{Bool, true, false}
 use mathlib.Core.List.{List, [], ◌∷◌, ◌++◌, append_assoc}
 use Prim.Native.Nat.{ℕ, suc, ◌+◌, ◌<◌, ◌≤◌}
 use native.Mathlib.Omega.{arith}
-use lib.Dec.{eqb, ltb}
+use lib.Dec.{eqb}
 use lib.ListN.{length, drop, get_or}
 use Rattle.trace.specs.Trace.{long_hold_kind}
 use Rattle.text.specs.Record.{long, event}
@@ -17,7 +17,6 @@ use Rattle.tool_assemble.specs.Scan.{blanks_from}
 use Rattle.tool_assemble.specs.Item.{better, fronted_from, entries, body_item, unblanked, item}
 use Rattle.tool_assemble.specs.declared.item.Item.{Item}
 use Rattle.tool_assemble.specs.declared.item.Item.TheVariants.{Nothing, Record, Text, Bad}
-use Rattle.tool_assemble.specs.declared.item.Fault.{Fault}
 use Rattle.claims_assembling.proofs.Digits.{decimal_first, decimal_some, front_read}
 use Rattle.claims_assembling.proofs.Steps.{solid, not_closed}
 

@@ -2,11 +2,11 @@
 use mathlib.Core.Path.{◌≡◌, refl, sym, ap, ◌∙◌}
 use mathlib.Core.Bool.{Bool, true, false, cond}
 use mathlib.Core.List.{List, [], ◌∷◌, ◌++◌, append_assoc}
-use Prim.Native.Nat.{ℕ, zero, suc, ◌+◌, ◌-◌, ◌*◌, ◌/◌, ◌%◌, ◌<◌, ◌≤◌}
+use Prim.Native.Nat.{ℕ, zero, suc, ◌+◌, ◌-◌, ◌*◌, ◌/◌, ◌<◌, ◌≤◌}
 use native.Mathlib.Omega.{arith}
 use lib.Dec.{eqb, ltb}
-use lib.ListN.{length, drop, get_or, length-append}
-use borrow.Author.Tests.{lt-ltb, le-ltb, eq-eqb, ne_eqb, ltb-true, ltb-false, eqb-false}
+use lib.ListN.{length, get_or, length-append}
+use borrow.Author.Tests.{eq-eqb, ne_eqb, ltb-true, ltb-false, eqb-false}
 use Rattle.qsm.specs.model.Map.{decode}
 use Rattle.qsm.specs.declared.map.OwnWord.{OwnWord}
 use Rattle.qsm.specs.declared.map.OwnWord.TheVariants.{Qsmcr, QilrQivr, Portqs, PqsparDdrqs}
@@ -21,8 +21,7 @@ use Rattle.text.specs.Register.{part_of, pair, own, serial, command, queue, regi
 use Rattle.text.specs.declared.register.Part.{Part}
 use Rattle.text.specs.declared.register.Part.TheVariants.{Upper, Lower, Whole}
 use Rattle.text.proofs.Decimal.{decimal_none, decimal_one, decimal_more}
-use Rattle.tool_assemble.specs.Scan.{is_blank}
-use Rattle.tool_assemble.specs.Names.{stops, name_from, begins, is_name}
+use Rattle.tool_assemble.specs.Names.{name_from, begins, is_name}
 use Rattle.claims_assembling.proofs.Steps.{not_blank}
 use Rattle.claims_assembling.proofs.Digits.{Digit, decimal_first}
 

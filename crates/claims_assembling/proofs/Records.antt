@@ -1,21 +1,20 @@
 -- A record's line gives the record back, and so do its bytes. Assumes nothing.
 use mathlib.Core.Path.{◌≡◌, refl}
 use mathlib.Core.Logic.{inl, inr}
-use mathlib.Core.Bool.{Bool, true, false, cond, not}
+use mathlib.Core.Bool.{Bool, true, false, not}
 use mathlib.Core.List.{List, [], ◌∷◌, ◌++◌}
-use Prim.Native.Nat.{ℕ, suc, ◌+◌, ◌*◌, ◌/◌, ◌%◌, ◌<◌, ◌≤◌}
+use Prim.Native.Nat.{ℕ, ◌+◌, ◌*◌, ◌/◌, ◌%◌, ◌<◌}
 use native.Mathlib.Omega.{arith}
 use lib.Dec.{eqb, ltb, leb}
 use lib.ListN.{length, length-append}
 use borrow.Author.Tests.{le-ltb, ne_eqb, le-leb, lt-leb}
 use Rattle.qsm.specs.declared.event.Access.TheVariants.{Read, Write}
-use Rattle.qsm.specs.declared.event.Event.{Event}
 use Rattle.qsm.specs.declared.event.Event.TheVariants.{Reset, Hold}
 use Rattle.qsm.specs.declared.event.Event.TheVariants as events
 use Rattle.steps.specs.Bits.{digit}
 use Rattle.trace.specs.Trace.{reset_kind, hold_kind, read_kind, write_kind, long_hold_kind, parsed}
 use Rattle.trace.specs.declared.Parsed.TheVariants as traced
-use Rattle.tool_assemble.specs.Encode.{width_byte, word_bytes, long_bytes, hold_bytes, long_hold_bytes, read_bytes, write_bytes, record_bytes}
+use Rattle.tool_assemble.specs.Encode.{width_byte, word_bytes, long_bytes, hold_bytes, long_hold_bytes, read_bytes, write_bytes}
 use Rattle.claims_assembling.specs.Laws.{LinesGiveBack, BytesGiveBack}
 use Rattle.claims_assembling.proofs.Holds.{resets_give_back, holds_give_back}
 use Rattle.claims_assembling.proofs.Accesses.{reads_give_back, writes_give_back}

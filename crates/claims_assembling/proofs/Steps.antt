@@ -1,20 +1,19 @@
 -- A pattern held against what was written by it, step by step. Assumes nothing.
-use mathlib.Core.Path.{◌≡◌, refl, sym, ap, ◌∙◌}
-use mathlib.Core.Bool.{Bool, true, false, cond, ◌&&◌}
+use mathlib.Core.Path.{◌≡◌, refl}
+use mathlib.Core.Bool.{Bool, true, false, ◌&&◌}
 use mathlib.Core.List.{List, [], ◌∷◌, ◌++◌}
-use Prim.Native.Nat.{ℕ, zero, suc, ◌+◌, ◌-◌, ◌*◌, ◌/◌, ◌%◌, ◌^◌, ◌<◌, ◌≤◌}
+use Prim.Native.Nat.{ℕ, suc, ◌+◌, ◌-◌, ◌/◌, ◌%◌, ◌^◌, ◌<◌, ◌≤◌}
 use native.Mathlib.Omega.{arith}
-use lib.Dec.{eqb, ltb}
+use lib.Dec.{ltb}
 use lib.ListN.{length, drop, get_or, length-append}
 use lib.Seq.{drop-append_seam}
 use borrow.Author.Tests.{lt-ltb, le-ltb, eq-eqb, ne_eqb, ltb-true}
-use Rattle.text.specs.Digits.{decimal, hex_digit, hex_byte, hex_word, hex_long}
-use Rattle.tool_assemble.specs.Scan.{is_blank, blanks_from, digit_of, digits, nothing, some, number, limit, numeral, literal, commented, closed, element, scan_from}
+use Rattle.text.specs.Digits.{decimal, hex_byte, hex_word, hex_long}
+use Rattle.tool_assemble.specs.Scan.{is_blank, blanks_from, digit_of, digits, nothing, number, limit, numeral, literal, closed, element, scan_from}
 use Rattle.tool_assemble.specs.declared.scan.Taken.{Taken}
 use Rattle.tool_assemble.specs.declared.scan.Numbers.{Numbers}
-use Rattle.tool_assemble.specs.declared.scan.Found.{Found}
 use Rattle.tool_assemble.proofs.Reading.{numeral_some}
-use Rattle.claims_assembling.proofs.Digits.{hex_digit_holds, hex_least, byte_digits, no_digit, decimal_read, decimal_first, decimal_some}
+use Rattle.claims_assembling.proofs.Digits.{hex_least, byte_digits, no_digit, decimal_read, decimal_first, decimal_some}
 
 pub not_blank : (b : ℕ) → 33 ≤ b → is_blank b ≡ false
 not_blank b h = rw (ne_eqb b 32 (λ e. omega arith), ne_eqb b 9 (λ e. omega arith), ne_eqb b 13 (λ e. omega arith))

@@ -1,11 +1,11 @@
 -- No byte of a record's line ends a line. Assumes nothing.
-use mathlib.Core.Path.{◌≡◌, refl, ap, sym, ◌∙◌}
+use mathlib.Core.Path.{◌≡◌, refl}
 use mathlib.Core.Bool.{Bool, true, false, cond}
-use mathlib.Core.List.{List, [], ◌∷◌, ◌++◌, append-nil, append_assoc}
-use Prim.Native.Nat.{ℕ, zero, suc, ◌+◌, ◌-◌, ◌*◌, ◌/◌, ◌%◌, ◌<◌, ◌≤◌}
+use mathlib.Core.List.{List, [], ◌∷◌, ◌++◌}
+use Prim.Native.Nat.{ℕ, zero, suc, ◌+◌, ◌-◌, ◌*◌, ◌/◌, ◌%◌}
 use native.Mathlib.Omega.{arith}
 use lib.Dec.{eqb, ltb}
-use borrow.Author.Tests.{lt-ltb, ne_eqb, ltb-true, ltb-false}
+use borrow.Author.Tests.{lt-ltb, ltb-true, ltb-false}
 use Rattle.qsm.specs.model.Map.{decode}
 use Rattle.qsm.specs.declared.map.OwnWord.{OwnWord}
 use Rattle.qsm.specs.declared.map.OwnWord.TheVariants.{Qsmcr, QilrQivr, Portqs, PqsparDdrqs}
@@ -24,7 +24,7 @@ use Rattle.text.specs.Digits.{ascii, decimal, decimal_digit, hex_digit, hex_byte
 use Rattle.text.specs.Register.{part_of, pair, own, serial, command, queue, register, registers}
 use Rattle.text.specs.declared.register.Part.{Part}
 use Rattle.text.specs.declared.register.Part.TheVariants.{Upper, Lower, Whole}
-use Rattle.text.specs.Record.{privilege, place, long, hold, access, event}
+use Rattle.text.specs.Record.{privilege, place, long, hold, event}
 use Rattle.text.proofs.Decimal.{decimal_none, decimal_one, decimal_more}
 use Rattle.claims_assembling.specs.Laws.{printed}
 use Rattle.claims_assembling.proofs.Digits.{hex_least}

@@ -1,6 +1,6 @@
 -- The definitions of reading, one byte further on. Assumes nothing.
 use mathlib.Core.Path.{◌≡◌, refl, sym, ap, ◌∙◌}
-use mathlib.Core.Bool.{Bool, true, false, cond, not}
+use mathlib.Core.Bool.{Bool, true, false, cond}
 use mathlib.Core.List.{List, [], ◌∷◌}
 use Prim.Native.Nat.{ℕ, zero, suc, ◌+◌, ◌-◌, ◌*◌, ◌≤◌, ◌<◌}
 use native.Mathlib.Nat.{mul-le-mul}
@@ -10,7 +10,7 @@ use lib.Dec.{eqb, ltb}
 use lib.ListN.{length, take, drop, get_or, length-append, length-drop, get_or-eq_default}
 use lib.Seq.{drop-cons, drop-length, take_all, take-append_seam, get_or-drop}
 use borrow.Author.Tests.{ltb-true}
-use Rattle.tool_assemble.specs.Scan.{is_blank, blanks_from, digit_of, takes, digits, nothing, some, number, limit, numeral, literal, commented, closed, element, pushed, onward, scan_from}
+use Rattle.tool_assemble.specs.Scan.{is_blank, blanks_from, digit_of, takes, digits, nothing, some, number, limit, numeral, literal, commented, closed, element, onward, scan_from}
 use Rattle.text.specs.Line.{room, Shows}
 use Rattle.text.specs.declared.line.Line.{Line}
 use Rattle.text.specs.Register.{registers}

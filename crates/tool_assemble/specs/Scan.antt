@@ -1,5 +1,5 @@
 -- A pattern held against a text: bytes, blanks and numbers, from left to right.
-use Rattle.std.specs.Prelude.{Bool, true, false, cond, ◌&&◌, ◌||◌, List, [], ◌∷◌, ℕ, suc, ◌+◌, ◌-◌, ◌*◌, eqb, ltb, length, drop, get_or}
+use Rattle.std.specs.Prelude.{Bool, true, false, cond, ◌||◌, List, [], ◌∷◌, ℕ, suc, ◌+◌, ◌-◌, ◌*◌, eqb, ltb, length, drop}
 use Rattle.tool_assemble.specs.declared.scan.Figures.{Figures}
 use Rattle.tool_assemble.specs.declared.scan.Taken.{Taken}
 use Rattle.tool_assemble.specs.declared.scan.Numbers.{Numbers}

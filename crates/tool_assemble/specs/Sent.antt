@@ -1,5 +1,5 @@
 -- A text sent on RXD: 8N1, a hold for each bit.
-use Rattle.std.specs.Prelude.{Bool, true, false, cond, List, [], ◌∷◌, ◌++◌, ℕ, zero, suc, ◌+◌, ◌-◌, ◌*◌, ◌/◌, ◌%◌, eqb, ltb, length, drop, get_or}
+use Rattle.std.specs.Prelude.{Bool, true, false, cond, List, [], ◌∷◌, ℕ, zero, suc, ◌+◌, ◌-◌, ◌*◌, ◌/◌, ◌%◌, eqb, ltb, length, drop, get_or}
 use Rattle.steps.specs.Bits.{bit}
 use Rattle.qsm.specs.declared.event.Event.TheVariants.{Hold}
 use Rattle.trace.specs.Trace.{hold_kind, long_hold_kind}

@@ -33,6 +33,7 @@ fn offset_of(writes: bool, n: Numbers) -> u16
 }
 
 // With an offset: the names are those of its registers.
+#[tactic(auto, unfolding(crate::specs::Item::access_at))]
 fn access_at(writes: bool, supervisor: bool, width: u8, text: &[u8], k: usize, n: Numbers) -> Item
     ensures { result ≡ access_at writes supervisor width text.now k n }
 {
@@ -44,6 +45,7 @@ fn access_at(writes: bool, supervisor: bool, width: u8, text: &[u8], k: usize, n
 }
 
 // Without one: the offset is the only one with these names.
+#[tactic(auto, unfolding(crate::specs::Item::access_named))]
 fn access_named(
     writes: bool,
     supervisor: bool,
@@ -82,6 +84,7 @@ fn behind_name(writes: bool, rest: &[u8]) -> Found
 }
 
 // From the names on.
+#[tactic(auto, unfolding(crate::specs::Item::named))]
 fn named(writes: bool, supervisor: bool, width: u8, text: &[u8]) -> Item
     ensures { result ≡ named writes supervisor width text.now }
 {
@@ -102,6 +105,7 @@ fn named(writes: bool, supervisor: bool, width: u8, text: &[u8]) -> Item
     )
 }
 
+#[tactic(auto, unfolding(crate::specs::Item::access_item))]
 pub(crate) fn access_item(writes: bool, supervisor: bool, pattern: &[u8], text: &[u8]) -> Item
     ensures { result ≡ access_item writes supervisor pattern.now text.now }
 {

@@ -53,6 +53,7 @@ pub(crate) fn limit(c: u8) -> u64
 }
 
 // Whether a digit belongs to a number of a base that is to stay below a limit.
+#[tactic(auto, unfolding(crate::specs::Scan::takes))]
 fn takes(base: u64, most: u64, n: u64, b: u8) -> bool
     requires { (base < 17) × (n < 4294967296) }
     ensures { result ≡ takes base most n b }
@@ -65,6 +66,7 @@ fn takes(base: u64, most: u64, n: u64, b: u8) -> bool
 }
 
 // The number of a base, below a limit, that a text begins with.
+#[tactic(auto, using(crate::proofs::Reading::digits_at, crate::proofs::Reading::digits_end, crate::proofs::Reading::takes_below, crate::proofs::Reading::end))]
 pub(crate) fn digits(base: u64, most: u64, text: &[u8]) -> Figures
     requires { (base < 17) × (most ≤ 4294967296) }
     ensures value { result ≡ digits base most 0 0 text.now }

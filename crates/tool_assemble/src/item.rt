@@ -58,6 +58,7 @@ pub(crate) fn better(x: Item, y: Item) -> Item
     }
 }
 
+#[tactic(auto, unfolding(crate::specs::Item::reset_item))]
 fn reset_item(text: &[u8]) -> Item
     ensures { result ≡ reset_item text.now }
 {
@@ -78,6 +79,7 @@ fn hold_of(n: Numbers) -> Event
     )
 }
 
+#[tactic(auto, unfolding(crate::specs::Item::hold_item))]
 fn hold_item(kind: u8, pattern: &[u8], text: &[u8]) -> Item
     ensures { result ≡ hold_item kind pattern.now text.now }
 {
@@ -120,6 +122,7 @@ fn fronted(text: &[u8]) -> usize
     0
 }
 
+#[tactic(auto, unfolding(crate::specs::Item::holds))]
 fn holds(text: &[u8]) -> Item
     ensures { result ≡ holds text.now }
 {
@@ -147,6 +150,7 @@ fn writes(text: &[u8]) -> Item
     )
 }
 
+#[tactic(auto, unfolding(crate::specs::Item::entries))]
 fn entries(text: &[u8]) -> Item
     ensures { result ≡ entries text.now }
 {
@@ -155,6 +159,7 @@ fn entries(text: &[u8]) -> Item
     better(better(holds(text), accesses), others)
 }
 
+#[tactic(auto, unfolding(crate::specs::Item::body_item))]
 fn body_item(text: &[u8]) -> Item
     ensures { result ≡ body_item text.now }
 {
@@ -163,6 +168,7 @@ fn body_item(text: &[u8]) -> Item
 }
 
 // Behind the blanks of a line.
+#[tactic(auto, unfolding(crate::specs::Item::unblanked))]
 fn unblanked(text: &[u8]) -> Item
     ensures { result ≡ unblanked text.now }
 {
@@ -177,6 +183,7 @@ fn unblanked(text: &[u8]) -> Item
 // What a line says, without the byte that ends it.
 // Ruled out: a register's name that is not the offset's; a number too big for its field taken in part; a comment taken for a record; the
 // number in front of a record demanded.
+#[tactic(auto, unfolding(crate::specs::Item::item))]
 pub fn parse(line: &[u8]) -> Item
     ensures { result ≡ item line.now }
 {

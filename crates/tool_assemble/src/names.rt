@@ -57,6 +57,7 @@ pub(crate) fn name_length(text: &[u8]) -> usize
     i
 }
 
+#[tactic(auto, using(crate::proofs::Reading::begins_none, crate::proofs::Reading::begins_short, crate::proofs::Reading::begins_at_holds, crate::proofs::Reading::end))]
 fn begins(word: &[u8], text: &[u8]) -> bool
     ensures { result ≡ begins word.now text.now }
 {
@@ -81,6 +82,7 @@ fn names(width: u8, offset: u16) -> Line
 }
 
 // Whether the first k bytes of a text are the names of what an access of that width touches at an offset.
+#[tactic(auto, using(crate::proofs::Reading::shown_take, crate::proofs::Reading::shown_length, crate::proofs::Reading::shown_within), unfolding(crate::specs::Names::is_name))]
 pub(crate) fn is_name(width: u8, offset: u16, text: &[u8], k: usize) -> bool
     ensures { result ≡ is_name width offset text.now k }
 {
@@ -129,6 +131,7 @@ fn at_offset(width: u8, offset: u16, text: &[u8], k: usize) -> bool
 }
 
 // The offset below `end` whose names the first k bytes of a text are.
+#[tactic(auto, using(crate::proofs::Reading::sought_none, crate::proofs::Reading::sought_more))]
 pub(crate) fn sought(width: u8, text: &[u8], k: usize, end: u16) -> Offset
     ensures { result ≡ sought width text.now k end }
 {

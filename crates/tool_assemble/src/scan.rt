@@ -54,6 +54,7 @@ pub(crate) fn byte(text: &[u8], i: usize) -> u8
 }
 
 // The blanks that a text begins with.
+#[tactic(auto, using(crate::proofs::Reading::blanks_at, crate::proofs::Reading::blanks_end, crate::proofs::Reading::end))]
 pub(crate) fn blanks(text: &[u8]) -> usize
     ensures value { result ≡ blanks text.now }
     ensures upper_bound { result ≤ length text.now }
@@ -129,6 +130,7 @@ fn numeral(c: u8, text: &[u8]) -> Taken
     number(0, digits(10, most, text))
 }
 
+#[tactic(auto, using(crate::proofs::Reading::literal_none, crate::proofs::Reading::literal_some))]
 fn literal(c: u8, text: &[u8]) -> Taken
     ensures value { result ≡ literal c text.now }
     ensures length_in_bounds { result.length ≤ length text.now }
@@ -163,6 +165,7 @@ fn commented(b: u8, n: usize) -> Taken
 }
 
 // The end of the line, with blanks and a comment before it or without.
+#[tactic(auto, using(crate::proofs::Reading::closed_none, crate::proofs::Reading::closed_some))]
 pub(crate) fn ending(text: &[u8]) -> Taken
     ensures value { result ≡ ending text.now }
     ensures length_in_bounds { result.length ≤ length text.now }
@@ -175,6 +178,7 @@ pub(crate) fn ending(text: &[u8]) -> Taken
 }
 
 // An element of a pattern: below 31 a number of that field, 31 the end of the line, 32 blanks, else that byte.
+#[tactic(auto, unfolding(crate::specs::Scan::element))]
 fn element(c: u8, text: &[u8]) -> Taken
     ensures value { result ≡ element c text.now }
     ensures length_in_bounds { result.length ≤ length text.now }

@@ -80,6 +80,7 @@ fn behind_backslash(b: u8, c: u8, d: u8) -> Character
 }
 
 // A character by its first four bytes.
+#[tactic(auto, unfolding(crate::specs::Sent::spelled))]
 fn spelled(a: u8, b: u8, c: u8, d: u8) -> Character
     ensures { result ≡ spelled a b c d }
 {
@@ -94,6 +95,7 @@ fn spelled(a: u8, b: u8, c: u8, d: u8) -> Character
 
 // The character that the rest of a quoted text begins with.
 // Ruled out: the closing quote sent; an escape that is not known sent as it stands.
+#[tactic(auto, unfolding(crate::specs::Sent::character))]
 pub fn first(text: &[u8]) -> Character
     ensures value { result ≡ character text.now }
     ensures length_in_bounds { result.length ≤ length text.now }
@@ -159,6 +161,7 @@ fn level(byte: u8, i: u8) -> bool
 }
 
 // The clock at which bit k of a text begins, from the beginning of the text: k x HZ / baud, rounded, halves up.
+#[tactic(auto, unfolding(crate::specs::Sent::edge))]
 fn edge(baud: u32, clock: u32, k: u64) -> u64
     requires { k ≤ 4294967296 }
     ensures { result ≡ edge baud clock k }

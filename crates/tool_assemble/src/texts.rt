@@ -51,6 +51,7 @@ fn behind_text(start: usize, rest: &[u8]) -> Item
 }
 
 // Behind the opening quote.
+#[tactic(auto, unfolding(crate::specs::Item::inner))]
 fn inner(start: usize, text: &[u8]) -> Item
     ensures { result ≡ inner start text.now }
 {
@@ -58,6 +59,7 @@ fn inner(start: usize, text: &[u8]) -> Item
     behind_text(start, &text[n..])
 }
 
+#[tactic(auto, unfolding(crate::specs::Item::line_item))]
 pub(crate) fn line_item(text: &[u8]) -> Item
     ensures { result ≡ line_item text.now }
 {

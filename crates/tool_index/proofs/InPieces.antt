@@ -1,8 +1,8 @@
 -- Pieces of a trace, indexed one after the other, give what the whole gives. Assumes nothing.
 use mathlib.Core.Path.{◌≡◌, refl, sym, ap, subst, ◌∙◌}
-use mathlib.Core.Bool.{Bool, true, false, cond, ◌&&◌}
+use mathlib.Core.Bool.{Bool, true, false}
 use mathlib.Core.List.{List, [], ◌∷◌, ◌++◌}
-use Prim.Native.Nat.{ℕ, ◌+◌, ◌-◌, ◌*◌, ◌/◌, ◌<◌, ◌≤◌, min}
+use Prim.Native.Nat.{ℕ, ◌+◌, ◌-◌, ◌*◌, ◌≤◌}
 use native.Mathlib.Omega.{arith}
 use lib.Dec.{ltb, leb}
 use lib.ListN.{length, take, drop, length-append, length-drop}
@@ -10,13 +10,13 @@ use lib.Seq.{drop-append-le, take_all}
 use borrow.Author.Tests.{le-leb, leb-true, leb-false, ltb-false}
 use Rattle.tool_index.specs.Records.{records, bytes_of, rest}
 use Rattle.tool_index.specs.Walk.{past, up_to, walked, largest, possible}
-use Rattle.tool_index.specs.Marks.{spacing, marks_for, marks_from, room, held, fresh, grown, report, Outcome, indexed_from, gone_on}
+use Rattle.tool_index.specs.Marks.{spacing, marks_from, room, held, fresh, grown, report, indexed_from, gone_on}
 use Rattle.tool_index.specs.Laws.{InPieces, WalksOn}
 use Rattle.tool_index.specs.declared.walk.Position.{Position}
 use Rattle.tool_index.specs.declared.walk.Walked.{Walked}
 use Rattle.tool_index.proofs.Items.{records_within}
 use Rattle.tool_index.proofs.Walking.{Walking, number_is, place_is, resets_below, walks_on, came}
-use Rattle.tool_index.proofs.Possible.{Possible, possible_is}
+use Rattle.tool_index.proofs.Possible.{possible_is}
 use Rattle.tool_index.proofs.Marking.{written_length, written_take, written_drop}
 use Rattle.tool_index.proofs.Resuming.{marks_same, resumed, same_walk, more_records}
 use Rattle.tool_index.proofs.Origin.{and_true}

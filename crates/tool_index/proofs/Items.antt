@@ -1,11 +1,10 @@
 -- The records of a trace: one record on, their bytes, and a trace that goes on. Assumes nothing.
 use mathlib.Core.Path.{◌≡◌, refl, sym, ap, ◌∙◌}
-use mathlib.Core.Logic.{inl, inr}
 use mathlib.Core.List.{List, [], ◌∷◌, ◌++◌}
 use Prim.Native.Nat.{ℕ, zero, suc, ◌+◌, ◌<◌, ◌≤◌}
 use native.Mathlib.Omega.{arith}
 use native.Mathlib.Nat.{add_assoc}
-use lib.ListN.{length, take, drop, length-append, length-drop}
+use lib.ListN.{length, drop, length-drop}
 use lib.Seq.{drop-append-le, drop-drop}
 use borrow.Author.Tests.{eq-eqb}
 use Rattle.qsm.specs.declared.event.Event.{Event}
@@ -14,9 +13,6 @@ use Rattle.qsm.specs.declared.event.Event.TheVariants as event
 use Rattle.trace.specs.Trace.{parsed}
 use Rattle.trace.specs.declared.Parsed.{Parsed}
 use Rattle.trace.specs.declared.Parsed.TheVariants.{Record, Unknown, Cut}
-use types.Run.{OneOf}
-use denote.Enum.Declared.{tag_of}
-use Rattle.trace.specs.contracts.Parsed as P
 use Rattle.trace.proofs.Playing.{record_within, record_kept}
 use Rattle.tool_index.specs.Records.{Item, items_by, records_for, records, bytes_of, reset_of, resets_in, rest}
 
@@ -55,14 +51,13 @@ pub one_on : (t : List ℕ) {e : Event} {n : ℕ} → parsed t ≡ Record e n �
 one_on t is = unroll t ∙ ap (items_by records t) is
 
 -- Nothing follows what is no record, or is cut.
-none_by : (t : List ℕ) (p : Parsed) → OneOf (1 ∷ 2 ∷ []) (tag_of P.the_type p) → items_by records t p ≡ []
-none_by t (Record e n) (inl h) = absurd (omega arith)
-none_by t (Record e n) (inr h) = absurd (omega arith)
-none_by t Unknown h = refl
-none_by t Cut h = refl
+none_by : (t : List ℕ) (p : Parsed) → ((e : Event) (n : ℕ) → p ≡ Record e n → ⊥) → items_by records t p ≡ []
+none_by t (Record e n) other = absurd (other e n refl)
+none_by t Unknown other = refl
+none_by t Cut other = refl
 
-pub none_on : (t : List ℕ) (p : Parsed) → p ≡ parsed t → OneOf (1 ∷ 2 ∷ []) (tag_of P.the_type p) → records t ≡ []
-none_on t p is keys = unroll t ∙ ap (items_by records t) (sym is) ∙ none_by t p keys
+pub none_on : (t : List ℕ) (p : Parsed) → p ≡ parsed t → ((e : Event) (n : ℕ) → p ≡ Record e n → ⊥) → records t ≡ []
+none_on t p is other = unroll t ∙ ap (items_by records t) (sym is) ∙ none_by t p other
 
 -- ---- induction over the records
 

@@ -1,20 +1,19 @@
 -- The laws of specs/Laws. Assumes nothing.
 use mathlib.Core.Path.{◌≡◌, refl, sym, ap, ◌∙◌}
-use mathlib.Core.Bool.{Bool, true, false, cond}
+use mathlib.Core.Bool.{Bool, true, false}
 use mathlib.Core.List.{List, [], ◌∷◌, ◌++◌}
-use Prim.Native.Nat.{ℕ, zero, suc, ◌+◌, ◌-◌, ◌*◌, ◌/◌, ◌<◌, ◌≤◌, min}
+use Prim.Native.Nat.{ℕ, ◌+◌, ◌-◌, ◌*◌, ◌≤◌}
 use native.Mathlib.Omega.{arith}
 use lib.Dec.{ltb}
 use lib.ListN.{length, take, drop, length-take}
 use lib.Seq.{take_at, length-take-le}
-use borrow.Author.Tests.{ltb-true, ltb-false}
+use borrow.Author.Tests.{ltb-false}
 use Rattle.tool_index.specs.Records.{records}
-use Rattle.tool_index.specs.Walk.{start, past, walked, largest, possible}
-use Rattle.tool_index.specs.Marks.{spacing, marks_for, marks_from, room, held, fresh, report, grown, Outcome, indexed_from, built, mark_for, extended}
-use Rattle.tool_index.specs.Find.{found_from, found, looked_up}
+use Rattle.tool_index.specs.Walk.{start, largest}
+use Rattle.tool_index.specs.Marks.{spacing, marks_from, room, held, fresh, grown, indexed_from, built, mark_for, extended}
+use Rattle.tool_index.specs.Find.{found_from, looked_up}
 use Rattle.tool_index.specs.Laws.{Holds, Builds, Alike, Finds, Near, Behind, Extends, KeepsOld}
 use Rattle.tool_index.specs.declared.walk.Position.{Position}
-use Rattle.tool_index.specs.declared.find.Found.{Found}
 use Rattle.tool_index.proofs.Walking.{Walking, walks_on}
 use Rattle.tool_index.proofs.Marking.{written_length, written_take}
 use Rattle.tool_index.proofs.Resuming.{marks_same, same_end, resumed, same_walk, more_records}

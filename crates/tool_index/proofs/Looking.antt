@@ -1,7 +1,7 @@
 -- Whether a record is there, where a walk up to it has come. Assumes nothing.
 use mathlib.Core.Path.{◌≡◌, refl, sym, ap, ◌∙◌}
 use mathlib.Core.Bool.{Bool, true, false, ◌&&◌}
-use mathlib.Core.List.{List, [], ◌∷◌}
+use mathlib.Core.List.{List}
 use Prim.Native.Nat.{ℕ, ◌+◌, ◌-◌, ◌<◌, ◌≤◌}
 use native.Mathlib.Omega.{arith}
 use lib.Dec.{eqb, ltb}
@@ -11,7 +11,7 @@ use Rattle.trace.specs.Trace.{parsed}
 use Rattle.trace.specs.declared.Parsed.{Parsed}
 use Rattle.trace.specs.declared.Parsed.TheVariants.{Record, Unknown, Cut}
 use Rattle.tool_index.specs.Records.{Item, items_by, records}
-use Rattle.tool_index.specs.Walk.{up_to, walked}
+use Rattle.tool_index.specs.Walk.{walked}
 use Rattle.tool_index.specs.Find.{is_record, found_from}
 use Rattle.tool_index.specs.declared.walk.Position.{Position}
 use Rattle.tool_index.specs.declared.walk.Walked.{Walked}

@@ -7,8 +7,7 @@ use native.Mathlib.Numerals.{add-one}
 use native.Mathlib.Nat.{add-zero}
 use lib.ListN.{length, set, take, drop, take-append-drop, length-append, length-drop}
 use lib.Seq.{sets-eq, take_at, drop_at, drop-drop, length-take-le}
-use Rattle.tool_index.specs.Records.{records, bytes_of}
-use Rattle.tool_index.specs.Walk.{past, walked, Sound}
+use Rattle.tool_index.specs.Walk.{walked, Sound}
 use Rattle.tool_index.specs.Marks.{spacing, most, mark, marks_from}
 use Rattle.tool_index.specs.declared.walk.Position.{Position}
 use Rattle.tool_index.specs.declared.walk.Walked.{Walked}

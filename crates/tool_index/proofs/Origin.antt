@@ -1,16 +1,16 @@
 -- The marks of a trace or of a beginning of it are positions of the walk from the start. Assumes nothing.
 use mathlib.Core.Path.{◌≡◌, refl, sym, ap, subst, ◌∙◌}
 use mathlib.Core.Bool.{Bool, true, false, cond, ◌&&◌}
-use mathlib.Core.List.{List, [], ◌∷◌, ◌++◌}
-use Prim.Native.Nat.{ℕ, zero, suc, ◌+◌, ◌-◌, ◌*◌, ◌/◌, ◌<◌, ◌≤◌, min}
+use mathlib.Core.List.{List, ◌++◌}
+use Prim.Native.Nat.{ℕ, zero, suc, ◌+◌, ◌-◌, ◌*◌, ◌/◌, ◌<◌, min}
 use native.Mathlib.Omega.{arith}
-use lib.Dec.{ltb, eqb, leb}
-use lib.ListN.{length, get_or, take, drop, length-take, get_or-append}
+use lib.Dec.{ltb, eqb}
+use lib.ListN.{length, get_or, take, length-take, get_or-append}
 use lib.Seq.{get_or-take, get_or-append-add}
 use borrow.Author.Tests.{ltb-true, ltb-false, eq-eqb, ne_eqb, eqb-true, eqb-false, le-leb}
-use Rattle.tool_index.specs.Records.{records, bytes_of}
-use Rattle.tool_index.specs.Walk.{start, past, up_to, walked, largest, possible}
-use Rattle.tool_index.specs.Marks.{spacing, marks_for, mark, marks_from, room, held, mark_at, mark_for}
+use Rattle.tool_index.specs.Records.{records}
+use Rattle.tool_index.specs.Walk.{start, past, walked, possible}
+use Rattle.tool_index.specs.Marks.{spacing, mark, marks_from, held, mark_at, mark_for}
 use Rattle.tool_index.specs.Laws.{Holds, MarksAre, NoneMissing}
 use Rattle.tool_index.specs.declared.walk.Position.{Position}
 use Rattle.tool_index.specs.declared.walk.Walked.{Walked}

@@ -1,20 +1,20 @@
 -- An index that is resumed from a position of the walk, with the marks up to there, comes out as the whole. Assumes nothing.
 use mathlib.Core.Path.{◌≡◌, refl, sym, ap, ◌∙◌}
-use mathlib.Core.Bool.{Bool, true, false, cond}
+use mathlib.Core.Bool.{Bool, true, false}
 use mathlib.Core.List.{List, [], ◌∷◌, ◌++◌, append_assoc, append-nil}
 use Prim.Native.Nat.{ℕ, zero, suc, ◌+◌, ◌-◌, ◌*◌, ◌/◌, ◌<◌, ◌≤◌, min}
 use native.Mathlib.Omega.{arith}
 use native.Mathlib.Nat.{add-zero, add-suc, add_assoc}
 use lib.Dec.{ltb}
 use lib.ListN.{length, take, drop, take-append-drop, length-append}
-use lib.Seq.{drop-drop, take-append-le, drop-append-le}
+use lib.Seq.{drop-drop, take-append-le}
 use Rattle.tool_index.specs.Records.{Item, records, bytes_of, rest, refusal_at, stop_of}
 use Rattle.tool_index.specs.Walk.{past, up_to, walked}
 use Rattle.tool_index.specs.Marks.{spacing, marks_for, mark, marks_from, room, fresh, report, grown, indexed_from}
 use Rattle.tool_index.specs.declared.walk.Position.{Position}
 use Rattle.tool_index.specs.declared.index.Indexed.{Indexed}
 use Rattle.tool_index.proofs.Items.{bytes_append, goes_on}
-use Rattle.tool_index.proofs.Walking.{Walking, past_append, number_is, walks_on, came}
+use Rattle.tool_index.proofs.Walking.{Walking, past_append, walks_on}
 
 -- ---- rows of marks
 

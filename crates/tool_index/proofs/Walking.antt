@@ -1,8 +1,5 @@
 -- A walk under way, and how it ends. Assumes nothing.
 use mathlib.Core.Path.{◌≡◌, refl, sym, ap, ◌∙◌}
-use types.Run.{OneOf}
-use denote.Enum.Declared.{tag_of}
-use Rattle.trace.specs.contracts.Parsed as P
 use mathlib.Core.Bool.{Bool, true, false}
 use mathlib.Core.List.{List, [], ◌∷◌, ◌++◌}
 use Prim.Native.Nat.{ℕ, zero, suc, ◌+◌, ◌-◌, ◌<◌, ◌≤◌}
@@ -17,10 +14,9 @@ use Rattle.trace.specs.Trace.{parsed}
 use Rattle.trace.specs.declared.Parsed.{Parsed}
 use Rattle.trace.specs.declared.Parsed.TheVariants.{Record}
 use Rattle.trace.proofs.Playing.{record_within}
-use Rattle.tool_index.specs.Records.{Item, records, bytes_of, reset_of, resets_in}
+use Rattle.tool_index.specs.Records.{Item, records, bytes_of, resets_in}
 use Rattle.tool_index.specs.Walk.{past, up_to, walked, largest, Sound}
 use Rattle.tool_index.specs.declared.walk.Position.{Position}
-use Rattle.tool_index.specs.declared.walk.Walked.{Walked}
 use Rattle.tool_index.proofs.Items.{item, one_on, none_on, each_record, bytes_append, resets_append, resets_few, bytes_each, records_within}
 
 pub past_append : (p : Position) (rs ss : List Item) → past p (rs ++ ss) ≡ past (past p rs) ss
@@ -82,8 +78,8 @@ module _ {p : Position} {t : List ℕ} {n : ℕ} {q : Position} {read : ℕ} (w 
 
   -- What the parser says of what is left.
   module _ (x : Parsed) (told : x ≡ parsed (take (length t - read) (drop read t))) where
-    pub stops : OneOf (1 ∷ 2 ∷ []) (tag_of P.the_type x) → walked p t n ≡ record { at = q; read = read }
-    stops keys = ends (none_on (drop read t) x (told ∙ ap parsed (lent t read)) keys)
+    pub stops : ((e : Event) (s : ℕ) → x ≡ Record e s → ⊥) → walked p t n ≡ record { at = q; read = read }
+    stops other = ends (none_on (drop read t) x (told ∙ ap parsed (lent t read)) other)
 
   pub reaches : n ≤ q.number → walked p t n ≡ record { at = q; read = read }
   reaches h =

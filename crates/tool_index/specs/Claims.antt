@@ -1,6 +1,6 @@
 -- All that is shown of an index of a trace.
 use Rattle.std.specs.Prelude.{◌≡◌, List, [], ◌∷◌, ℕ}
-use Rattle.tool_index.specs.Marks.{built, extended}
+use Rattle.tool_index.specs.Marks.{built}
 use Rattle.tool_index.specs.Find.{looked_up}
 use Rattle.tool_index.specs.Laws.{Builds, MarksAre, NoneMissing, Finds, Near, Behind, Extends, KeepsOld, InPieces, WalksOn}
 
