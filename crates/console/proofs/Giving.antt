@@ -1,10 +1,10 @@
 -- Texts given to an output one after the other. Assumes nothing.
 use mathlib.Core.Path.{◌≡◌, refl, sym, ap, ◌∙◌}
 use mathlib.Core.Bool.{Bool, true, false}
-use mathlib.Core.List.{List, [], ◌∷◌, ◌++◌, append-nil, append_assoc}
-use Prim.Native.Nat.{ℕ, zero, suc, ◌+◌, ◌-◌, ◌≤◌, min}
+use mathlib.Core.List.{List, [], ◌++◌, append-nil, append_assoc}
+use Prim.Native.Nat.{ℕ, ◌+◌, ◌-◌, ◌≤◌, min}
 use native.Mathlib.Omega.{arith}
-use lib.ListN.{length, take, drop, length-append, length-drop, drop_of_length-le, take-append-drop}
+use lib.ListN.{length, take, drop, length-append, drop_of_length-le, take-append-drop}
 use lib.Dec.{ltb}
 use lib.Seq.{take-length, take_all, take_at, length-take-le}
 use borrow.Author.Tests.{ltb-true, ltb-false}
@@ -66,8 +66,8 @@ stores o buf text part good fits is =
     let w = o.waits in
     let n = w + length text - w in
     let front : length (take w buf) ≡ w = length-take-le w buf (omega arith) in
-    let middle : length (mid_of w n buf) ≡ n = mid_len w (w + length text) buf fits in
-    let same : length part ≡ length (mid_of w n buf) = ap length is ∙ omega (arith, middle) in
+    let long : length (mid_of w n buf) ≡ n = mid_len w (w + length text) buf (omega arith) in
+    let same : length part ≡ length (mid_of w n buf) = ap length is ∙ omega (arith, long) in
     let behind : put_mid w n buf part ≡ (take w buf ++ text) ++ post_of w n buf = rw is (simp append_assoc) in
     record {
       handed = [];

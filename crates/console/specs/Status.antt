@@ -1,5 +1,5 @@
 -- The exit statuses of a command, as a script sees them.
-use Rattle.std.specs.Prelude.{Bool, true, false, ℕ, ℤ, pos}
+use Rattle.std.specs.Prelude.{Bool, true, false, ℤ, pos}
 use Rattle.console.specs.declared.status.Status.{Status}
 use Rattle.console.specs.declared.status.Status.TheVariants.{Done, Found, Failed}
 

@@ -35,13 +35,7 @@ impl Source {
 
 // Carries the bytes of the buffer from a place on to its start, and reads once behind them.
 // Ruled out: a byte that is left lost or overwritten; more bytes reported than the buffer has.
-pub fn more<R: System>(
-    rt: &R,
-    from: &Origin,
-    source: Source,
-    buf: &mut [u8],
-    at: usize,
-) -> Source
+pub fn more<R: System>(rt: &R, from: &Origin, source: Source, buf: &mut [u8], at: usize) -> Source
     ensures prefix_len { IsPrefixLen result.total buf.new }
     ensures reads { Reads source buf.old at result buf.new }
 {

@@ -121,9 +121,10 @@ fn stored(out: Out, buf: &mut [u8], text: &[u8]) -> Out
     ensures { Gives out buf.old text.now result buf.new }
 {
     let at = out.waits;
-    buf[at..at + text.len()].copy_from_slice(text);
+    let end = at + text.len();
+    buf[at..end].copy_from_slice(text);
     let mut now = out;
-    now.waits = at + text.len();
+    now.waits = end;
     now
 }
 

@@ -1,5 +1,4 @@
-use Prim.Native.Nat.{ℕ, ◌≤◌}
-use lib.ListN.{length}
+use Rattle.std.proofs.Common.{length, ◌≤◌}
 use Rattle.console.proofs.output.hand.Given as goal
 
 abbrev pub invariant-loop-at : goal.invariant-loop-at
