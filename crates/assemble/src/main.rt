@@ -2,8 +2,9 @@
 #![tactic(auto)]
 
 use files::message::{fail, say, say_first};
+use files::origin::Origin;
 use files::output::write_first;
-use libc::STDOUT_FILENO;
+use files::system::{Sink, System};
 use run::{Next, Turned};
 use text::line::Line;
 use tool_assemble::item::Fault;
@@ -36,7 +37,7 @@ fn place(line: u64, column: u64) -> Line {
 }
 
 // What is wrong is said, with its place; whether nothing is.
-fn good(t: Turned, name: &[u8], path: &[u8]) -> bool {
+fn good(t: Turned, name: &[u8], path: &[u8], from: &Origin, to: &Sink) -> bool {
     let r = t.run;
     let next = t.next;
     match next {
@@ -50,11 +51,11 @@ fn good(t: Turned, name: &[u8], path: &[u8]) -> bool {
             false
         }
         Next::NotRead => {
-            fail(b"assemble", name);
+            fail(b"assemble", name, from.error());
             false
         }
         Next::NotWritten => {
-            fail(b"assemble", path);
+            fail(b"assemble", path, to.error());
             false
         }
         Next::More => {
@@ -64,37 +65,38 @@ fn good(t: Turned, name: &[u8], path: &[u8]) -> bool {
     }
 }
 
-fn print_count(records: u64) {
+fn print_count<R: System>(rt: &R, records: u64) {
+    let output = Sink::output(rt);
     let line = Line::empty()
         .write(b"records ")
         .decimal(20, records)
         .put(10);
     let n = line.length;
     let bytes = line.bytes;
-    if !write_first(STDOUT_FILENO, &bytes, n) {
-        fail(b"assemble", b"standard output");
+    if !write_first(&output, &bytes, n) {
+        fail(b"assemble", b"standard output", output.error());
     }
 }
 
-// The text of a descriptor into the trace at a path.
-fn make(fd: i32, name: &[u8], path: &[u8]) {
+// The text of an input into the trace at a path.
+fn make<R: System>(rt: &R, from: &Origin, name: &[u8], path: &[u8]) {
     let mut beside = io::buffer();
-    let o = files::output::begin(b"assemble", path, &mut beside);
-    let out = o.fd;
+    let o = files::output::begin(rt, b"assemble", path, &mut beside);
     let n = o.name;
-    if out < 0 {
+    let Some(sink) = o.sink else {
         return;
-    }
-    let t = run::assemble(fd, out);
-    let whole = good(t, name, path);
-    if files::output::finish(b"assemble", out, &beside[..n], path, whole) {
+    };
+    let t = run::assemble(rt, from, &sink);
+    let whole = good(t, name, path, from, &sink);
+    if files::output::finish(rt, b"assemble", sink, &beside[..n], path, whole) {
         let r = t.run;
-        print_count(r.records);
+        print_count(rt, r.records);
     }
 }
 
-fn main() {
+fn main(rt: HostRuntime) {
     let c = files::command::read(
+        &rt,
         b"assemble",
         b"",
         2,
@@ -125,14 +127,12 @@ A line that is not understood is reported with its number and its column, and no
         return;
     }
     let mut path = io::buffer();
-    let p = files::command::word(1, &mut path);
+    let p = files::command::word(&rt, 1, &mut path);
     let mut name = io::buffer();
-    let i = files::input::open(b"assemble", 0, &mut name);
-    let fd = i.fd;
+    let i = files::input::open(&rt, b"assemble", 0, &mut name);
     let n = i.name;
-    if fd < 0 {
+    let Some(text) = i.from else {
         return;
-    }
-    make(fd, &name[..n], &path[..p]);
-    libc::close(fd);
+    };
+    make(&rt, &text, &name[..n], &path[..p]);
 }

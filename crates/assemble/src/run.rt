@@ -1,8 +1,10 @@
 // Lines taken one after the other, however the text comes in: byte by byte they are collected until one is whole.
 ghost use Rattle.std.specs.Prelude.{◌≤◌};
 
+use files::origin::Origin;
 use files::output::write_first;
 use files::pieces::{counted, fill, least};
+use files::system::{Sink, System};
 use qsm::event::Event;
 use tool_assemble::encode::encode;
 use tool_assemble::item::{Fault, Item};
@@ -33,22 +35,22 @@ pub struct Turned {
     pub next: Next,
 }
 
-fn write_record(out: i32, kind: u8, e: Event) -> bool {
+fn write_record(to: &Sink, kind: u8, e: Event) -> bool {
     let r = encode(kind, e);
     let n = r.length;
     let bytes = r.bytes;
-    write_first(out, &bytes, n)
+    write_first(to, &bytes, n)
 }
 
 // The holds of a character, whose first bit is bit k of the text.
-fn send_byte(out: i32, s: Sent, byte: u8, k: u32) -> bool
+fn send_byte(to: &Sink, s: Sent, byte: u8, k: u32) -> bool
     requires { k ≤ 4294967000 }
 {
     let mut i: u8 = 0;
     while i < 10 {
         let b = tool_assemble::sent::bit_hold(s, byte, i, k + i as u32);
         let e = b.event;
-        if !write_record(out, b.kind, e) {
+        if !write_record(to, b.kind, e) {
             return false;
         }
         i += 1;
@@ -64,7 +66,7 @@ struct Wrote {
 }
 
 // The holds of a text, from its start in a line on: at most 1,024 characters.
-fn send(out: i32, s: Sent, line: &[u8]) -> Wrote {
+fn send(to: &Sink, s: Sent, line: &[u8]) -> Wrote {
     let mut k: u32 = 0;
     let start = least(s.start, line.len());
     let mut at = line.len() - start;
@@ -77,7 +79,7 @@ fn send(out: i32, s: Sent, line: &[u8]) -> Wrote {
                 records: k as u64,
             };
         }
-        if !send_byte(out, s, c.byte, k) {
+        if !send_byte(to, s, c.byte, k) {
             return Wrote {
                 ok: false,
                 records: 0,
@@ -130,13 +132,13 @@ fn said(bytes: &[u8], n: usize) -> Item {
     tool_assemble::item::parse(&bytes[..some])
 }
 
-fn send_first(out: i32, s: Sent, bytes: &[u8], n: usize) -> Wrote {
+fn send_first(to: &Sink, s: Sent, bytes: &[u8], n: usize) -> Wrote {
     let some = least(n, bytes.len());
-    send(out, s, &bytes[..some])
+    send(to, s, &bytes[..some])
 }
 
 // A line has ended.
-fn ended(out: i32, run: Run) -> Turned {
+fn ended(to: &Sink, run: Run) -> Turned {
     let line = run.line;
     let n = run.have;
     let i = said(&line, n);
@@ -148,11 +150,11 @@ fn ended(out: i32, run: Run) -> Turned {
         Item::Record(kind, e) => written(
             run,
             Wrote {
-                ok: write_record(out, kind, e),
+                ok: write_record(to, kind, e),
                 records: 1,
             },
         ),
-        Item::Text(s) => written(run, send_first(out, s, &line, n)),
+        Item::Text(s) => written(run, send_first(to, s, &line, n)),
         Item::Bad(fault, left) => Turned {
             run,
             next: Next::Bad(fault, column(n, left)),
@@ -177,9 +179,9 @@ fn renewed(t: Turned) -> Turned {
 }
 
 // One byte more.
-fn take(out: i32, run: Run, b: u8) -> Turned {
+fn take(to: &Sink, run: Run, b: u8) -> Turned {
     if b == 10 {
-        return renewed(ended(out, run));
+        return renewed(ended(to, run));
     }
     let mut now = run;
     let at = now.have;
@@ -198,11 +200,11 @@ fn take(out: i32, run: Run, b: u8) -> Turned {
 }
 
 // The bytes of a buffer, one after the other.
-fn take_all(out: i32, run: Run, bytes: &[u8]) -> Turned {
+fn take_all(to: &Sink, run: Run, bytes: &[u8]) -> Turned {
     let mut now = run;
     let mut i = 0;
     while i < bytes.len() {
-        let t = take(out, now, bytes[i]);
+        let t = take(to, now, bytes[i]);
         let next = t.next;
         let Next::More = next else {
             return t;
@@ -218,8 +220,8 @@ fn take_all(out: i32, run: Run, bytes: &[u8]) -> Turned {
 }
 
 // The end of the text ends its last line.
-fn finish(out: i32, run: Run) -> Turned {
-    let t = ended(out, run);
+fn finish(to: &Sink, run: Run) -> Turned {
+    let t = ended(to, run);
     let next = t.next;
     let Next::More = next else {
         return t;
@@ -232,8 +234,8 @@ fn finish(out: i32, run: Run) -> Turned {
 }
 
 // Reads once and takes what is there.
-fn turn(fd: i32, out: i32, run: Run, buf: &mut [u8]) -> Turned {
-    let f = fill(fd, buf, 0, false);
+fn turn<R: System>(rt: &R, from: &Origin, to: &Sink, run: Run, buf: &mut [u8]) -> Turned {
+    let f = fill(rt, from, buf, 0, false);
     if f.failed {
         return Turned {
             run,
@@ -241,18 +243,18 @@ fn turn(fd: i32, out: i32, run: Run, buf: &mut [u8]) -> Turned {
         };
     }
     if f.ended {
-        return finish(out, run);
+        return finish(to, run);
     }
     let n = f.total;
-    take_all(out, run, &buf[..n])
+    take_all(to, run, &buf[..n])
 }
 
-pub fn assemble(fd: i32, out: i32) -> Turned {
+pub fn assemble<R: System>(rt: &R, from: &Origin, to: &Sink) -> Turned {
     let mut buf = io::large_buffer();
     let mut run = start();
     let mut turns = u64::MAX;
     while turns > 0 {
-        let t = turn(fd, out, run, &mut buf);
+        let t = turn(rt, from, to, run, &mut buf);
         let next = t.next;
         let Next::More = next else {
             return t;

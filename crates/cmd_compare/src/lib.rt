@@ -5,8 +5,10 @@
 use console::output::{Out, flush, put_line};
 use console::status::{Status, worse};
 use files::message::{fail, say};
-use libc::STDIN_FILENO;
+use files::origin::Origin;
+use files::system::{Sink, System};
 use piece::End;
+use std::io::Error;
 use stream::pass;
 use verdict::{status_of, status_shown, to_show, verdict_line};
 
@@ -18,14 +20,17 @@ mod stream;
 mod tally;
 mod verdict;
 
-// What a pass could not do, said before another call can fail.
-fn say_end(end: End) {
+// The system's number of the error of what has no places, as a pipe.
+const NO_PLACE: i32 = 29;
+
+// What a pass could not do.
+fn say_end(end: End, a: &Origin, b: &Origin) {
     match end {
         End::NotRead(first) => {
             if first {
-                fail(b"compare", b"A");
+                fail(b"compare", b"A", a.error());
             } else {
-                fail(b"compare", b"B");
+                fail(b"compare", b"B", b.error());
             }
         }
         End::More => say(b"compare", b"a log is too long\n"),
@@ -34,91 +39,105 @@ fn say_end(end: End) {
 }
 
 // What the second pass could not do: the first came to the ends of both logs.
-fn say_again(end: End) {
+fn say_again(end: End, a: &Origin, b: &Origin) {
     match end {
         End::Refused(_) => say(b"compare", b"a log has changed since it was first read\n"),
         End::OtherKind(_) => say(b"compare", b"a log has changed since it was first read\n"),
-        _ => say_end(end),
+        _ => say_end(end, a, b),
     }
 }
 
 // Whether both files are read from their starts; a pipe has none.
-fn rewound(a: i32, b: i32) -> bool {
-    if libc::lseek(a, 0, libc::SEEK_SET) != 0 {
+fn rewound<R: System>(rt: &R, a: &Origin, b: &Origin) -> bool {
+    if !a.go_to(rt, 0) {
         return false;
     }
-    libc::lseek(b, 0, libc::SEEK_SET) == 0
+    b.go_to(rt, 0)
 }
 
 // The last write, and the status that it leaves.
-fn finish(out: Out, lines: &[u8], s: Status) -> Status {
-    let done = flush(out, lines);
+fn finish(to: &Sink, out: Out, lines: &[u8], s: Status) -> Status {
+    let done = flush(to, out, lines);
     if done.failed {
-        fail(b"compare", b"standard output");
+        fail(b"compare", b"standard output", to.error());
     }
     worse(done.failed, s)
 }
 
-fn show_all(a: i32, b: i32, out: Out, lines: &mut [u8], s: Status) -> Status {
-    if !rewound(a, b) {
-        fail(b"compare", b"a log, read again");
-        return finish(out, lines, Status::Failed);
+fn show_all<R: System>(
+    rt: &R,
+    a: &Origin,
+    b: &Origin,
+    to: &Sink,
+    out: Out,
+    lines: &mut [u8],
+    s: Status,
+) -> Status {
+    if !rewound(rt, a, b) {
+        fail(
+            b"compare",
+            b"a log, read again",
+            Error::from_raw_os_error(NO_PLACE),
+        );
+        return finish(to, out, lines, Status::Failed);
     }
-    let t = pass(true, a, b, out, lines);
+    let t = pass(rt, true, a, b, to, out, lines);
     let end = t.end;
-    say_again(end);
-    finish(t.out, lines, status_shown(s, end))
+    say_again(end, a, b);
+    finish(to, t.out, lines, status_shown(s, end))
 }
 
-fn compare(a: i32, b: i32) -> Status {
+fn compare<R: System>(rt: &R, a: &Origin, b: &Origin) -> Status {
+    let output = Sink::output(rt);
     let mut lines = io::large_buffer();
-    let t = pass(false, a, b, Out::standard(), &mut lines);
+    let t = pass(rt, false, a, b, &output, Out::standard(&output), &mut lines);
     let end = t.end;
     let tally = t.tally;
-    say_end(end);
+    say_end(end, a, b);
     let s = status_of(tally, end);
-    let out = put_line(t.out, &mut lines, verdict_line(tally, end));
+    let out = put_line(&output, t.out, &mut lines, verdict_line(tally, end));
     if to_show(tally, end) {
-        return show_all(a, b, out, &mut lines, s);
+        return show_all(rt, a, b, &output, out, &mut lines, s);
     }
-    finish(out, &lines, s)
+    finish(&output, out, &lines, s)
 }
 
-// Two files that are open, and closed afterwards.
-fn opened(a: i32, b: i32) -> Status {
-    if (a == STDIN_FILENO) | (b == STDIN_FILENO) {
+// Two files that are open.
+fn opened<R: System>(rt: &R, a: &Origin, b: &Origin) -> Status {
+    if a.is_standard() | b.is_standard() {
         say(
             b"compare",
             b"it reads its files twice, so it can't take standard input\n",
         );
         return Status::Failed;
     }
-    if !rewound(a, b) {
+    if !rewound(rt, a, b) {
         say(
             b"compare",
             b"it reads its files twice, so it can't take a pipe\n",
         );
         return Status::Failed;
     }
-    let s = compare(a, b);
-    libc::close(a);
-    libc::close(b);
-    s
+    compare(rt, a, b)
 }
 
-fn files_of(from: usize) -> Status {
+fn files_of<R: System>(rt: &R, from: usize) -> Status {
     let mut name = io::buffer();
-    let a = files::input::open_from(from, b"compare", 0, &mut name);
-    let b = files::input::open_from(from, b"compare", 1, &mut name);
-    if (a.fd < 0) | (b.fd < 0) {
+    let a = files::input::open_from(rt, from, b"compare", 0, &mut name);
+    let b = files::input::open_from(rt, from, b"compare", 1, &mut name);
+    let Some(first) = a.from else {
         return Status::Failed;
-    }
-    opened(a.fd, b.fd)
+    };
+    let Some(second) = b.from else {
+        return Status::Failed;
+    };
+    opened(rt, &first, &second)
 }
 
 // The command, whose words begin at an argument.
-pub fn run(from: usize) -> Status {
+pub fn run<R: System>(rt: &R, from: usize) -> Status {
     let c = files::command::read_from(
+        rt,
         from,
         b"compare",
         b"",
@@ -144,5 +163,5 @@ Exit status: 0 equal, 1 differ, 2 refused or could not be done.
     if !c.go {
         return worse(c.wrong, Status::Done);
     }
-    files_of(from)
+    files_of(rt, from)
 }

@@ -9,6 +9,7 @@ ghost use Rattle.cmd_compare.specs.Lines.{differs, field_line, first_half, secon
 use answers::Field;
 use console::output::{Out, put_line};
 use files::pieces::{counted, least};
+use files::system::Sink;
 use text::difference::difference_line;
 use text::log::{Logged, logged_at};
 use tool_compare::kinds::stride_of;
@@ -29,39 +30,64 @@ fn differs(sum: u64, f: Field) -> bool
     }
 }
 
-fn put_field(out: Out, buf: &mut [u8], n: u64, sum: u64, f: Field, x: Logged, y: Logged) -> Out
+fn put_field(
+    to: &Sink,
+    out: Out,
+    buf: &mut [u8],
+    n: u64,
+    sum: u64,
+    f: Field,
+    x: Logged,
+    y: Logged,
+) -> Out
     ensures { Gives out buf.old (field_line n sum x y f) result buf.new }
 {
     if differs(sum, f) {
-        return put_line(out, buf, difference_line(n, f, x, y));
+        return put_line(to, out, buf, difference_line(n, f, x, y));
     }
     out
 }
 
-fn put_first_half(out: Out, buf: &mut [u8], n: u64, sum: u64, x: Logged, y: Logged) -> Out
+fn put_first_half(
+    to: &Sink,
+    out: Out,
+    buf: &mut [u8],
+    n: u64,
+    sum: u64,
+    x: Logged,
+    y: Logged,
+) -> Out
     ensures { Gives out buf.old (answer_lines n sum x y first_half) result buf.new }
 {
-    let kind = put_field(out, buf, n, sum, Field::Kind, x, y);
-    let refusal = put_field(kind, buf, n, sum, Field::Refusal, x, y);
-    let value = put_field(refusal, buf, n, sum, Field::Value, x, y);
-    put_field(value, buf, n, sum, Field::Levels, x, y)
+    let kind = put_field(to, out, buf, n, sum, Field::Kind, x, y);
+    let refusal = put_field(to, kind, buf, n, sum, Field::Refusal, x, y);
+    let value = put_field(to, refusal, buf, n, sum, Field::Value, x, y);
+    put_field(to, value, buf, n, sum, Field::Levels, x, y)
 }
 
-fn put_second_half(out: Out, buf: &mut [u8], n: u64, sum: u64, x: Logged, y: Logged) -> Out
+fn put_second_half(
+    to: &Sink,
+    out: Out,
+    buf: &mut [u8],
+    n: u64,
+    sum: u64,
+    x: Logged,
+    y: Logged,
+) -> Out
     ensures { Gives out buf.old (answer_lines n sum x y second_half) result buf.new }
 {
-    let mask = put_field(out, buf, n, sum, Field::Mask, x, y);
-    let level = put_field(mask, buf, n, sum, Field::Level, x, y);
-    let vector = put_field(level, buf, n, sum, Field::Vector, x, y);
-    put_field(vector, buf, n, sum, Field::Clock, x, y)
+    let mask = put_field(to, out, buf, n, sum, Field::Mask, x, y);
+    let level = put_field(to, mask, buf, n, sum, Field::Level, x, y);
+    let vector = put_field(to, level, buf, n, sum, Field::Vector, x, y);
+    put_field(to, vector, buf, n, sum, Field::Clock, x, y)
 }
 
 // Answer n, x in the first log and y in the second.
-fn put_answer(out: Out, buf: &mut [u8], n: u64, sum: u64, x: Logged, y: Logged) -> Out
+fn put_answer(to: &Sink, out: Out, buf: &mut [u8], n: u64, sum: u64, x: Logged, y: Logged) -> Out
     ensures { Gives out buf.old (answer_lines n sum x y in_their_order) result buf.new }
 {
-    let half = put_first_half(out, buf, n, sum, x, y);
-    put_second_half(half, buf, n, sum, x, y)
+    let half = put_first_half(to, out, buf, n, sum, x, y);
+    put_second_half(to, half, buf, n, sum, x, y)
 }
 
 // Answer k of a piece of a kind; zeros where it is not there.
@@ -79,6 +105,7 @@ fn answer_of(kind: u8, log: &[u8], k: u64) -> Logged
 
 // Answer k of two pieces, numbered on from the pieces' first.
 fn put_pair(
+    to: &Sink,
     out: Out,
     buf: &mut [u8],
     kind: u8,
@@ -92,6 +119,7 @@ fn put_pair(
 {
     let n = counted(first, k as usize);
     put_answer(
+        to,
         out,
         buf,
         n,
@@ -104,6 +132,7 @@ fn put_pair(
 // The answers that a list of so many names.
 // Ruled out: a line left out, written twice or out of order; the answers of the two logs exchanged; a field that does not differ.
 pub fn put_list(
+    to: &Sink,
     out: Out,
     buf: &mut [u8],
     kind: u8,
@@ -120,7 +149,7 @@ pub fn put_list(
     let mut i = 0;
     while i < n {
         let at = 2 * i;
-        given = put_pair(given, buf, kind, first, a, b, list[at], list[at + 1]);
+        given = put_pair(to, given, buf, kind, first, a, b, list[at], list[at + 1]);
         i += 1;
     }
     given

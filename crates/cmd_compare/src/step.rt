@@ -6,6 +6,7 @@ use crate::piece::{End, kind_with, piece};
 use crate::show::put_list;
 use crate::tally::{Tally, answers_of};
 use console::output::Out;
+use files::system::Sink;
 
 #[derive(Clone, Copy)]
 pub struct Turned {
@@ -30,6 +31,7 @@ fn stopped(failed: bool, end: End) -> End
 // Ruled out: a difference shown in the pass that only counts; a line behind a failed write; the tally of another piece.
 pub fn step<'a>(
     shows: bool,
+    to: &Sink,
     t: Turned,
     a: &'a [u8],
     b: &'a [u8],
@@ -43,7 +45,7 @@ pub fn step<'a>(
     let kind = kind_with(tally.kind, a, b);
     let p = piece(tally, kind, a, b, list);
     let n = shown(shows, p.count);
-    let given = put_list(out, lines, kind, answers_of(tally), a, b, list, n);
+    let given = put_list(to, out, lines, kind, answers_of(tally), a, b, list, n);
     let next = p.tally;
     let end = p.end;
     Turned {

@@ -6,15 +6,17 @@ use crate::piece::End;
 use crate::step::{Turned, step};
 use crate::tally::nothing;
 use console::output::Out;
+use files::origin::Origin;
 use files::pieces::{Filled, fill};
+use files::system::{Sink, System};
 
 // Reads until the buffer is full or the input ends.
-fn fill_up(fd: i32, buf: &mut [u8]) -> Filled
+fn fill_up<R: System>(rt: &R, from: &Origin, buf: &mut [u8]) -> Filled
     ensures { IsPrefixLen result.total buf.new }
 {
     let mut have: usize = 0;
     while have < buf.len() {
-        let f = fill(fd, buf, have, false);
+        let f = fill(rt, from, buf, have, false);
         if f.ended {
             return f;
         }
@@ -54,32 +56,42 @@ fn numbers() -> [u64; 13104]
     [0u64; 13104]
 }
 
-fn turn(
+fn turn<R: System>(
+    rt: &R,
     shows: bool,
+    to: &Sink,
     t: Turned,
-    first: i32,
-    second: i32,
+    first: &Origin,
+    second: &Origin,
     a: &mut [u8],
     b: &mut [u8],
     lines: &mut [u8],
 ) -> Turned {
-    let f = fill_up(first, a);
+    let f = fill_up(rt, first, a);
     if f.failed {
         return not_read(t, true);
     }
-    let s = fill_up(second, b);
+    let s = fill_up(rt, second, b);
     if s.failed {
         return not_read(t, false);
     }
     let n = f.total;
     let m = s.total;
     let mut list = numbers();
-    step(shows, t, &a[..n], &b[..m], &mut list, lines)
+    step(shows, to, t, &a[..n], &b[..m], &mut list, lines)
 }
 
-// Compares what two descriptors give, from where they stand to their ends, and shows the differing answers if it is to. What is left in the buffer
+// Compares what two inputs give, from where they stand to their ends, and shows the differing answers if it is to. What is left in the buffer
 // for lines is still to be written.
-pub fn pass(shows: bool, first: i32, second: i32, out: Out, lines: &mut [u8]) -> Turned {
+pub fn pass<R: System>(
+    rt: &R,
+    shows: bool,
+    first: &Origin,
+    second: &Origin,
+    to: &Sink,
+    out: Out,
+    lines: &mut [u8],
+) -> Turned {
     let mut a = answers();
     let mut b = answers();
     let mut now = Turned {
@@ -89,7 +101,7 @@ pub fn pass(shows: bool, first: i32, second: i32, out: Out, lines: &mut [u8]) ->
     };
     let mut turns = u64::MAX;
     while turns > 0 {
-        now = turn(shows, now, first, second, &mut a, &mut b, lines);
+        now = turn(rt, shows, to, now, first, second, &mut a, &mut b, lines);
         let end = now.end;
         let End::More = end else {
             return now;

@@ -1,8 +1,8 @@
 -- Lines given to an output one after the other. Assumes nothing.
 use mathlib.Core.Path.{◌≡◌, refl, sym, ap, subst, ◌∙◌}
 use mathlib.Core.Bool.{Bool, true, false}
-use mathlib.Core.List.{List, [], ◌++◌, append-nil}
-use Prim.Native.Nat.{ℕ, zero, suc, ◌+◌, ◌-◌, ◌<◌, ◌≤◌}
+use mathlib.Core.List.{List, []}
+use Prim.Native.Nat.{ℕ, suc, ◌+◌, ◌-◌, ◌<◌, ◌≤◌}
 use native.Mathlib.Omega.{arith}
 use lib.ListN.{length, take, drop, length-drop, drop_of_length-le}
 use Rattle.steps.specs.Iterate.{iterate}
@@ -38,7 +38,7 @@ module _ (traces : Bool) (bytes : List ℕ) (r : Run) (o : Out) (buf : List ℕ)
               order = refl;
               kept = λ _. refl;
               stopped = λ _. (refl, (refl, refl));
-              same = (refl, refl);
+              same = refl;
               room = refl;
             };
       }

@@ -1,5 +1,5 @@
 -- What is shown has at least one byte and is within the bytes there. Assumes nothing.
-use mathlib.Core.Path.{◌≡◌, refl, sym, subst}
+use mathlib.Core.Path.{◌≡◌, refl, subst}
 use mathlib.Core.Bool.{Bool, true, false, cond, not}
 use mathlib.Core.List.{List}
 use Prim.Native.Nat.{ℕ, ◌<◌, ◌≤◌}
@@ -8,19 +8,16 @@ use lib.Dec.{eqb, ltb}
 use lib.Bits.{bit_and}
 use lib.ListN.{length}
 use borrow.Author.Tests.{ltb-false}
-use Rattle.qsm.specs.declared.event.Answer.{Answer}
 use Rattle.answers.specs.Answer.{clocked, length_of}
 use Rattle.trace.specs.Trace.{byte_at, parsed}
 use Rattle.trace.specs.declared.Parsed.{Parsed}
 use Rattle.trace.specs.declared.Parsed.TheVariants.{Record, Unknown, Cut}
 use Rattle.trace.proofs.Playing.{record_within}
 use Rattle.text.specs.Answer.{unnamed}
-use Rattle.text.specs.Log.{logged_at, answer_at, foreign_kind, other_kind, entry}
+use Rattle.text.specs.Log.{logged_at, foreign_kind, other_kind, entry}
 use Rattle.text.specs.declared.log.Entry.{Entry}
-use Rattle.text.specs.declared.log.Logged.{Logged}
 use Rattle.text.specs.declared.log.Entry.TheVariants as log
 use Rattle.cmd_show.specs.Item.{answer_item, record_item, item}
-use Rattle.cmd_show.specs.declared.item.Item.{Item}
 use Rattle.cmd_show.specs.declared.item.What.{What}
 use Rattle.cmd_show.specs.declared.item.What.TheVariants as what
 

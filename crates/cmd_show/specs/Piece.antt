@@ -1,5 +1,5 @@
 -- The answers or records of a piece, one after the other.
-use Rattle.std.specs.Prelude.{◌≡◌, Bool, true, false, List, [], ◌++◌, ℕ, zero, suc, ◌+◌, take, drop}
+use Rattle.std.specs.Prelude.{◌≡◌, Bool, false, List, [], ◌++◌, ℕ, zero, suc, ◌+◌, take, drop}
 use Rattle.steps.specs.Iterate.{iterate}
 use Rattle.trace.specs.Trace.{byte_at}
 use Rattle.files.specs.Pieces.{counted}

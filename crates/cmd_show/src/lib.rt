@@ -5,6 +5,9 @@ use console::message::say_line;
 use console::output::flush;
 use console::status::Status;
 use files::message::{fail, say};
+use files::origin::Origin;
+use files::system::{Sink, System};
+use std::io::Error;
 use stream::{Next, Turned};
 
 mod item;
@@ -34,29 +37,31 @@ fn report(traces: bool, t: Turned) -> Status {
 }
 
 // Whether it could not be read, which is said before another call can fail.
-fn say_unread(next: Next, name: &[u8]) {
+fn say_unread(next: Next, name: &[u8], error: Error) {
     let Next::NotRead = next else {
         return;
     };
-    fail(b"show", name);
+    fail(b"show", name, error);
 }
 
-fn show(traces: bool, fd: i32, name: &[u8]) -> Status {
+fn show<R: System>(rt: &R, traces: bool, from: &Origin, name: &[u8]) -> Status {
+    let output = Sink::output(rt);
     let mut lines = io::large_buffer();
-    let t = stream::show_all(traces, fd, &mut lines);
+    let t = stream::show_all(rt, traces, from, &output, &mut lines);
     let next = t.next;
-    say_unread(next, name);
-    let out = flush(t.out, &lines);
+    say_unread(next, name, from.error());
+    let out = flush(&output, t.out, &lines);
     if out.failed {
-        fail(b"show", b"standard output");
+        fail(b"show", b"standard output", output.error());
         return Status::Failed;
     }
     report(traces, t)
 }
 
 // The command, whose words begin at an argument.
-pub fn run(from: usize) -> Status {
+pub fn run<R: System>(rt: &R, from: usize) -> Status {
     let c = files::command::read_from(
+        rt,
         from,
         b"show",
         b"--trace",
@@ -89,13 +94,10 @@ place in bytes; what came before it is printed.
     }
     let traces = c.option;
     let mut name = io::buffer();
-    let i = files::input::open_from(from, b"show", 0, &mut name);
-    let fd = i.fd;
+    let i = files::input::open_from(rt, from, b"show", 0, &mut name);
     let n = i.name;
-    if fd < 0 {
+    let Some(input) = i.from else {
         return Status::Failed;
-    }
-    let s = show(traces, fd, &name[..n]);
-    libc::close(fd);
-    s
+    };
+    show(rt, traces, &input, &name[..n])
 }

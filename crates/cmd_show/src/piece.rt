@@ -5,6 +5,7 @@ ghost use Rattle.cmd_show.specs.Piece.{past, Shows};
 use crate::item::{What, found};
 use console::output::{Out, put_line};
 use files::pieces::counted;
+use files::system::Sink;
 
 // Where a run stands: the first byte of the answer or record before, or 0 at the start; the number of the next one, and its place in the piece.
 #[derive(Clone, Copy)]
@@ -36,7 +37,7 @@ impl Run {
 
 // Shows what is whole in a piece, up to what is not.
 // Ruled out: a line left out, written twice or out of order; a wrong number; one shown behind what is bad or behind a failed write.
-pub fn show(traces: bool, run: Run, out: Out, buf: &mut [u8], bytes: &[u8]) -> Went
+pub fn show(traces: bool, run: Run, to: &Sink, out: Out, buf: &mut [u8], bytes: &[u8]) -> Went
     ensures { Shows traces bytes.now run out buf.old result buf.new }
 {
     let mut now = run;
@@ -53,7 +54,7 @@ pub fn show(traces: bool, run: Run, out: Out, buf: &mut [u8], bytes: &[u8]) -> W
             };
         };
         let line = i.line;
-        given = put_line(given, buf, line);
+        given = put_line(to, given, buf, line);
         now = now.past(bytes[at], at + i.size);
         if given.failed {
             return Went {

@@ -6,7 +6,9 @@ use crate::item::What;
 use crate::piece::{Run, Went, show};
 use console::input::{Source, more};
 use console::output::{Out, flush};
+use files::origin::Origin;
 use files::pieces::counted;
+use files::system::{Sink, System};
 use text::message::Fault;
 
 #[derive(Clone, Copy)]
@@ -62,19 +64,27 @@ fn after(w: Went, source: Source) -> Turned {
 }
 
 // What waits to be written does not wait for more to be read where that may take long.
-fn before_read(source: Source, out: Out, lines: &[u8]) -> Out {
+fn before_read(to: &Sink, source: Source, out: Out, lines: &[u8]) -> Out {
     if source.plain {
         return out;
     }
-    flush(out, lines)
+    flush(to, out, lines)
 }
 
 // Reads once and shows what is there.
-fn turn(traces: bool, t: Turned, buf: &mut [u8], lines: &mut [u8]) -> Turned {
+fn turn<R: System>(
+    rt: &R,
+    traces: bool,
+    from: &Origin,
+    to: &Sink,
+    t: Turned,
+    buf: &mut [u8],
+    lines: &mut [u8],
+) -> Turned {
     let run = t.run;
     let source = t.source;
     let out = t.out;
-    let written = before_read(source, out, lines);
+    let written = before_read(to, source, out, lines);
     if written.failed {
         return Turned {
             run,
@@ -83,7 +93,7 @@ fn turn(traces: bool, t: Turned, buf: &mut [u8], lines: &mut [u8]) -> Turned {
             next: Next::NotWritten,
         };
     }
-    let now = more(source, buf, run.at);
+    let now = more(rt, from, source, buf, run.at);
     let start = Run {
         kind: run.kind,
         number: run.number,
@@ -98,11 +108,17 @@ fn turn(traces: bool, t: Turned, buf: &mut [u8], lines: &mut [u8]) -> Turned {
         };
     }
     let n = now.total;
-    after(show(traces, start, written, lines, &buf[..n]), now)
+    after(show(traces, start, to, written, lines, &buf[..n]), now)
 }
 
-// Shows what comes from a descriptor, on standard output. What is left in the buffer for lines is still to be written.
-pub fn show_all(traces: bool, fd: i32, lines: &mut [u8]) -> Turned {
+// Shows what comes from an input, on the output that is given. What is left in the buffer for lines is still to be written.
+pub fn show_all<R: System>(
+    rt: &R,
+    traces: bool,
+    from: &Origin,
+    to: &Sink,
+    lines: &mut [u8],
+) -> Turned {
     let mut buf = io::large_buffer();
     let mut now = Turned {
         run: Run {
@@ -110,13 +126,13 @@ pub fn show_all(traces: bool, fd: i32, lines: &mut [u8]) -> Turned {
             number: 0,
             at: 0,
         },
-        source: Source::of(fd),
-        out: Out::standard(),
+        source: Source::of(from),
+        out: Out::standard(to),
         next: Next::More,
     };
     let mut turns = u64::MAX;
     while turns > 0 {
-        now = turn(traces, now, &mut buf, lines);
+        now = turn(rt, traces, from, to, now, &mut buf, lines);
         let next = now.next;
         let Next::More = next else {
             return now;

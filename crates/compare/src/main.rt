@@ -1,6 +1,6 @@
 // Compares two logs: the command `compare` of a program.
 #![tactic(auto)]
 
-fn main() {
-    cmd_compare::run(1);
+fn main(rt: HostRuntime) {
+    cmd_compare::run(&rt, 1);
 }

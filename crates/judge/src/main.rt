@@ -2,7 +2,8 @@
 #![tactic(auto)]
 
 use files::message::{fail, say};
-use libc::{STDIN_FILENO, STDOUT_FILENO};
+use files::origin::Origin;
+use files::system::Sink;
 use run::{Next, Run, Turned};
 use text::message::stop_line;
 use trace::Stop;
@@ -22,44 +23,45 @@ fn stop_of(number: u8) -> Stop {
 }
 
 // The end of the trace, or the record that stopped it.
-fn tell_stop(stop: u8, at: Run) -> bool {
+fn tell_stop(to: &Sink, stop: u8, at: Run) -> bool {
     if stop == 0 {
-        return io::write_all(STDOUT_FILENO, b"end of the trace\n");
+        return to.write_all(b"end of the trace\n");
     }
-    show::write_line(stop_line(stop_of(stop), at.records, at.place))
+    show::write_line(to, stop_line(stop_of(stop), at.records, at.place))
 }
 
-fn tell_end(at: Run, stop: u8) -> bool {
+fn tell_end(to: &Sink, at: Run, stop: u8) -> bool {
     if at.wrong {
-        return tell_stop(stop, at);
+        return tell_stop(to, stop, at);
     }
-    let told = io::write_all(STDOUT_FILENO, b"accepted\n");
-    told & tell_stop(stop, at)
+    let told = to.write_all(b"accepted\n");
+    told & tell_stop(to, stop, at)
 }
 
-fn report(t: Turned) {
+fn report(t: Turned, trace: &Origin, log: &Origin, to: &Sink) {
     let at = t.run;
     let next = t.next;
     match next {
         Next::Done(stop) => {
-            if !tell_end(at, stop) {
-                fail(b"judge", b"standard output");
+            if !tell_end(to, at, stop) {
+                fail(b"judge", b"standard output", to.error());
             }
         }
-        Next::NotRead(trace) => {
-            if trace {
-                fail(b"judge", b"TRACE");
+        Next::NotRead(first) => {
+            if first {
+                fail(b"judge", b"TRACE", trace.error());
             } else {
-                fail(b"judge", b"LOG");
+                fail(b"judge", b"LOG", log.error());
             }
         }
-        Next::NotWritten => fail(b"judge", b"standard output"),
+        Next::NotWritten => fail(b"judge", b"standard output", to.error()),
         _ => say(b"judge", b"trace too long\n"),
     }
 }
 
-fn main() {
+fn main(rt: HostRuntime) {
     let c = files::command::read(
+        &rt,
         b"judge",
         b"",
         2,
@@ -88,18 +90,19 @@ Either file may be -, standard input.
         return;
     }
     let mut name = io::buffer();
-    let a = files::input::open(b"judge", 0, &mut name);
-    let b = files::input::open(b"judge", 1, &mut name);
-    let trace = a.fd;
-    let log = b.fd;
-    if (trace < 0) | (log < 0) {
+    let a = files::input::open(&rt, b"judge", 0, &mut name);
+    let b = files::input::open(&rt, b"judge", 1, &mut name);
+    let Some(trace) = a.from else {
         return;
-    }
-    if (trace == STDIN_FILENO) & (log == STDIN_FILENO) {
+    };
+    let Some(log) = b.from else {
+        return;
+    };
+    if trace.is_standard() & log.is_standard() {
         say(b"judge", b"one of the two files must be named\n");
         return;
     }
-    report(turns::judge(trace, log));
-    libc::close(trace);
-    libc::close(log);
+    let output = Sink::output(&rt);
+    let t = turns::judge(&rt, &trace, &log, &output);
+    report(t, &trace, &log, &output);
 }

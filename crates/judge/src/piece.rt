@@ -1,5 +1,7 @@
 // A piece of a file in a buffer: what of it is still to be looked at is carried to the start before more is read.
+use files::origin::Origin;
 use files::pieces::{carry, fill, least};
+use files::system::System;
 
 // The bytes of a buffer from one place up to another, which are still to be looked at, and whether its input has ended.
 #[derive(Clone, Copy)]
@@ -42,9 +44,9 @@ pub struct Reading {
     pub failed: bool,
 }
 
-pub fn read_on(fd: i32, buf: &mut [u8], p: Piece) -> Reading {
+pub fn read_on<R: System>(rt: &R, from: &Origin, buf: &mut [u8], p: Piece) -> Reading {
     let have = carry(buf, p.from, p.to);
-    let f = fill(fd, buf, have, p.ended);
+    let f = fill(rt, from, buf, have, p.ended);
     Reading {
         piece: Piece {
             from: 0,

@@ -5,6 +5,7 @@ ghost use Rattle.judge.specs.Run.{after_stop};
 use crate::piece::{Piece, further, nothing};
 use crate::show::show_wrong;
 use files::pieces::counted;
+use files::system::Sink;
 use qsm::state::Module;
 use tool_judge::{Verdict, Walked};
 
@@ -84,7 +85,7 @@ fn after(run: Run, w: Walked) -> Run {
 }
 
 // Plays what is there of the trace beside what is there of the log; after a wrong answer the log has no more to say.
-pub fn advance<'a>(run: Run, t: &'a [u8], l: &'a [u8]) -> Turned {
+pub fn advance<'a>(to: &Sink, run: Run, t: &'a [u8], l: &'a [u8]) -> Turned {
     let m = run.state;
     let w = tool_judge::walk(m, t, l, run.log.ended | run.wrong);
     let v = w.verdict;
@@ -96,7 +97,7 @@ pub fn advance<'a>(run: Run, t: &'a [u8], l: &'a [u8]) -> Turned {
     let Verdict::Wrong(k, f) = v else {
         return Turned { run: past, next };
     };
-    if show_wrong(m, t, l, counted(run.records, k), k, f) {
+    if show_wrong(to, m, t, l, counted(run.records, k), k, f) {
         return Turned {
             run: found(past),
             next,

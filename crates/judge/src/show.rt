@@ -2,7 +2,7 @@
 use answers::Field;
 use files::output::write_first;
 use files::pieces::least;
-use libc::STDOUT_FILENO;
+use files::system::Sink;
 use qsm::state::Module;
 use text::line::Line;
 use text::log::logged_at;
@@ -10,10 +10,10 @@ use text::record::record_line;
 use trace::{ANSWER_LENGTH, Parsed};
 
 // Whether it could be written.
-pub fn write_line(line: Line) -> bool {
+pub fn write_line(to: &Sink, line: Line) -> bool {
     let n = line.length;
     let bytes = line.bytes;
-    write_first(STDOUT_FILENO, &bytes, n)
+    write_first(to, &bytes, n)
 }
 
 fn wrong_line(n: u64, f: Field) -> Line {
@@ -48,7 +48,7 @@ fn answer_line(line: Line, f: Field, bytes: &[u8]) -> Line {
     }
 }
 
-fn show_record(n: u64, rest: &[u8]) -> bool {
+fn show_record(to: &Sink, n: u64, rest: &[u8]) -> bool {
     if rest.len() == 0 {
         return true;
     }
@@ -56,16 +56,27 @@ fn show_record(n: u64, rest: &[u8]) -> bool {
     let Parsed::Record(e, _) = p else {
         return true;
     };
-    write_line(record_line(n, rest[0], e))
+    write_line(to, record_line(n, rest[0], e))
 }
 
 // The wrong answer, with the record at the start of a rest of the trace, the first so many bytes of the model's answer, and the log's.
-pub fn show(n: u64, f: Field, rest: &[u8], chip: &[u8], written: usize, log: &[u8]) -> bool {
+pub fn show(
+    to: &Sink,
+    n: u64,
+    f: Field,
+    rest: &[u8],
+    chip: &[u8],
+    written: usize,
+    log: &[u8],
+) -> bool {
     let size = least(written, chip.len());
-    let told = write_line(wrong_line(n, f));
-    let record = show_record(n, rest);
-    let gives = write_line(answer_line(Line::empty().write(b"model:"), f, &chip[0..size]));
-    let says = write_line(answer_line(Line::empty().write(b"log:"), f, log));
+    let told = write_line(to, wrong_line(n, f));
+    let record = show_record(to, n, rest);
+    let gives = write_line(
+        to,
+        answer_line(Line::empty().write(b"model:"), f, &chip[0..size]),
+    );
+    let says = write_line(to, answer_line(Line::empty().write(b"log:"), f, log));
     told & record & gives & says
 }
 
@@ -79,7 +90,15 @@ fn bytes_of(k: usize, all: usize) -> usize {
 }
 
 // Answer n, which is answer k of these pieces, played from m on: beside the k answers before it, and then with room for one.
-pub fn show_wrong<'a>(m: Module, t: &'a [u8], l: &'a [u8], n: u64, k: usize, f: Field) -> bool {
+pub fn show_wrong<'a>(
+    to: &Sink,
+    m: Module,
+    t: &'a [u8],
+    l: &'a [u8],
+    n: u64,
+    k: usize,
+    f: Field,
+) -> bool {
     let at = least(bytes_of(k, l.len()), l.len());
     let w = tool_judge::walk(m, t, &l[0..at], false);
     let from = least(w.read, t.len());
@@ -88,5 +107,5 @@ pub fn show_wrong<'a>(m: Module, t: &'a [u8], l: &'a [u8], n: u64, k: usize, f: 
     let r = tool_judge::run(before, &t[from..], &room, false);
     let ours = r.ours;
     let written = bytes_of(r.walked.records, ANSWER_LENGTH);
-    show(n, f, &t[from..], &ours, written, &l[at..])
+    show(to, n, f, &t[from..], &ours, written, &l[at..])
 }

@@ -4,11 +4,13 @@ use crate::piece::read_on;
 use crate::run::{Next, Run, Turned, advance, found, start, with_log, with_trace};
 use crate::show::show;
 use answers::Field;
+use files::origin::Origin;
 use files::pieces::least;
+use files::system::{Sink, System};
 
-fn more_trace(fd: i32, buf: &mut [u8], run: Run) -> Turned {
+fn more_trace<R: System>(rt: &R, from: &Origin, buf: &mut [u8], run: Run) -> Turned {
     let p = run.trace;
-    let m = read_on(fd, buf, p);
+    let m = read_on(rt, from, buf, p);
     let piece = m.piece;
     if m.failed {
         return Turned {
@@ -22,9 +24,9 @@ fn more_trace(fd: i32, buf: &mut [u8], run: Run) -> Turned {
     }
 }
 
-fn more_log(fd: i32, bytes: &mut [u8], run: Run) -> Turned {
+fn more_log<R: System>(rt: &R, from: &Origin, bytes: &mut [u8], run: Run) -> Turned {
     let p = run.log;
-    let m = read_on(fd, bytes, p);
+    let m = read_on(rt, from, bytes, p);
     let piece = m.piece;
     if m.failed {
         return Turned {
@@ -39,7 +41,7 @@ fn more_log(fd: i32, bytes: &mut [u8], run: Run) -> Turned {
 }
 
 // Whether the log has bytes after its last answer: then what comes next is the log.
-fn surplus(fd: i32, bytes: &mut [u8], run: Run) -> Turned {
+fn surplus<R: System>(rt: &R, from: &Origin, bytes: &mut [u8], run: Run) -> Turned {
     let p = run.log;
     if p.from < p.to {
         return Turned {
@@ -47,7 +49,7 @@ fn surplus(fd: i32, bytes: &mut [u8], run: Run) -> Turned {
             next: Next::Log,
         };
     }
-    let t = more_log(fd, bytes, run);
+    let t = more_log(rt, from, bytes, run);
     let after = t.run;
     let q = after.log;
     let next = t.next;
@@ -67,10 +69,10 @@ fn surplus(fd: i32, bytes: &mut [u8], run: Run) -> Turned {
 }
 
 // Shows those bytes, which are a wrong answer.
-fn tell_surplus(bytes: &[u8], run: Run, stop: u8) -> Turned {
+fn tell_surplus(to: &Sink, bytes: &[u8], run: Run, stop: u8) -> Turned {
     let end = least(run.log.to, bytes.len());
     let from = least(run.log.from, end);
-    if show(run.records, Field::Kind, b"", b"", 0, &bytes[from..end]) {
+    if show(to, run.records, Field::Kind, b"", b"", 0, &bytes[from..end]) {
         return Turned {
             run: found(run),
             next: Next::Done(stop),
@@ -83,18 +85,25 @@ fn tell_surplus(bytes: &[u8], run: Run, stop: u8) -> Turned {
 }
 
 // The end of the trace, or its stop.
-fn finish(fd: i32, bytes: &mut [u8], run: Run, stop: u8) -> Turned {
+fn finish<R: System>(
+    rt: &R,
+    from: &Origin,
+    to: &Sink,
+    bytes: &mut [u8],
+    run: Run,
+    stop: u8,
+) -> Turned {
     if run.wrong {
         return Turned {
             run,
             next: Next::Done(stop),
         };
     }
-    let t = surplus(fd, bytes, run);
+    let t = surplus(rt, from, bytes, run);
     let after = t.run;
     let next = t.next;
     match next {
-        Next::Log => tell_surplus(bytes, after, stop),
+        Next::Log => tell_surplus(to, bytes, after, stop),
         Next::Done(_) => {
             Turned {
                 run: after,
@@ -106,30 +115,38 @@ fn finish(fd: i32, bytes: &mut [u8], run: Run, stop: u8) -> Turned {
 }
 
 // Plays what is there, and reads more of the input that has no more.
-fn turn(trace: i32, log: i32, run: Run, buf: &mut [u8], bytes: &mut [u8]) -> Turned {
+fn turn<R: System>(
+    rt: &R,
+    trace: &Origin,
+    log: &Origin,
+    to: &Sink,
+    run: Run,
+    buf: &mut [u8],
+    bytes: &mut [u8],
+) -> Turned {
     let end = least(run.trace.to, buf.len());
     let from = least(run.trace.from, end);
     let stop = least(run.log.to, bytes.len());
     let first = least(run.log.from, stop);
-    let a = advance(run, &buf[from..end], &bytes[first..stop]);
+    let a = advance(to, run, &buf[from..end], &bytes[first..stop]);
     let after = a.run;
     let next = a.next;
     match next {
-        Next::Trace => more_trace(trace, buf, after),
-        Next::Log => more_log(log, bytes, after),
-        Next::Done(why) => finish(log, bytes, after, why),
+        Next::Trace => more_trace(rt, trace, buf, after),
+        Next::Log => more_log(rt, log, bytes, after),
+        Next::Done(why) => finish(rt, log, to, bytes, after, why),
         _ => a,
     }
 }
 
-// Judges what two descriptors give, and shows the first wrong answer.
-pub fn judge(trace: i32, log: i32) -> Turned {
+// Judges what two inputs give, and shows the first wrong answer.
+pub fn judge<R: System>(rt: &R, trace: &Origin, log: &Origin, to: &Sink) -> Turned {
     let mut buf = io::large_buffer();
     let mut bytes = io::large_buffer();
     let mut run = start();
     let mut turns = u64::MAX;
     while turns > 0 {
-        let t = turn(trace, log, run, &mut buf, &mut bytes);
+        let t = turn(rt, trace, log, to, run, &mut buf, &mut bytes);
         let next = t.next;
         let Next::More = next else {
             return t;

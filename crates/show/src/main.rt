@@ -1,6 +1,6 @@
 // Shows a log, or with --trace a trace, as text: the command `show` of a program.
 #![tactic(auto)]
 
-fn main() {
-    cmd_show::run(1);
+fn main(rt: HostRuntime) {
+    cmd_show::run(&rt, 1);
 }
