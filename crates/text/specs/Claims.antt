@@ -1,5 +1,5 @@
 -- What is shown of the texts: decimal digits give the number back, to a reader and to the code, and an answer's bytes in a log give the answer back.
-use Rattle.std.specs.Prelude.{◌≡◌, ◌⊎◌, false, List, [], ◌∷◌, ◌++◌, ℕ, ◌+◌, ◌-◌, ◌*◌, ◌≤◌, ◌<◌, ◌^◌}
+use Rattle.std.specs.Prelude.{◌≡◌, ◌⊎◌, false, List, [], ◌∷◌, ◌++◌, ℕ, ◌+◌, ◌-◌, ◌*◌, ◌<◌, ◌^◌}
 use Rattle.std.specs.Int.Bits.{bit_and}
 use Rattle.qsm.specs.declared.event.Answer.{Answer}
 use Rattle.answers.specs.Answer.{plain, clocked}

@@ -1,5 +1,5 @@
 -- Document 01, Register map: the names of the registers that an access touches.
-use Rattle.std.specs.Prelude.{cond, List, [], ◌∷◌, ◌++◌, ℕ, ◌+◌, ◌*◌, ◌%◌, eqb}
+use Rattle.std.specs.Prelude.{cond, List, [], ◌++◌, ℕ, ◌+◌, ◌*◌, ◌%◌, eqb}
 use Rattle.qsm.specs.model.Map.{decode}
 use Rattle.qsm.specs.declared.map.OwnWord.{OwnWord}
 use Rattle.qsm.specs.declared.map.OwnWord.TheVariants.{Qsmcr, QilrQivr, Portqs, PqsparDdrqs}

@@ -1,13 +1,13 @@
 -- What a state means before a part of a hold or an event, and after it. Assumes nothing.
 use mathlib.Core.Path.{◌≡◌, refl, sym, ap, ◌∙◌}
 use mathlib.Core.Bool.{Bool, true, false, cond}
-use mathlib.Core.List.{List, [], ◌∷◌, ◌++◌}
+use mathlib.Core.List.{List, [], ◌++◌}
 use Prim.Native.Nat.{ℕ, ◌+◌, ◌-◌, ◌%◌, ◌<◌, ◌≤◌}
 use native.Mathlib.Omega.{arith}
 use native.Mathlib.Nat.{mod-lt, zero-mod, mod_self, add-mod_left}
 use lib.Dec.{eqb, ltb}
 use lib.ListN.{drop}
-use borrow.Author.Tests.{eqb-true, eqb-false, ltb-true, ltb-false, le-ltb}
+use borrow.Author.Tests.{eqb-true, ltb-true, ltb-false, le-ltb}
 use Rattle.steps.specs.Bits.{bit}
 use Rattle.qsm.specs.claims.StatusFlags.{RDRF, SCI, place, status}
 use Rattle.qsm.specs.model.State.{reset_module}
@@ -23,11 +23,11 @@ use Rattle.qsm.proofs.Limit.{hold_played}
 use Rattle.qsm.proofs.Splitting.{hold_counts}
 use Rattle.qsm.proofs.Counting.{counting}
 use Rattle.tool_lines.specs.Poll.{calls, looked, taking, polled}
-use Rattle.tool_lines.specs.Schedule.{Act, plays, polls, acts, stops, since_after, clock_after, Scheduled, stopped, followed, going, scheduled}
+use Rattle.tool_lines.specs.Schedule.{Act, acts, stops, since_after, clock_after, Scheduled, stopped, followed, going, scheduled}
 use Rattle.tool_lines.specs.Gather.{newline, caused, damage, typed, ended, put, goes_on, forgotten, shown, reported, gather}
 use Rattle.tool_lines.specs.Replay.{notices}
 use Rattle.tool_lines.specs.Noise.{silent, figure_of, hears, noises, heard}
-use Rattle.tool_lines.specs.Call.{turned, held_for, poll_now, since_of, hold_on, restarted, accessed, event_on}
+use Rattle.tool_lines.specs.Call.{turned, held_for, poll_now, since_of, hold_on, event_on}
 use Rattle.tool_lines.specs.Laws.{Replayed, replayed, meant, telling}
 use Rattle.tool_lines.specs.declared.line.Line.{Line}
 use Rattle.tool_lines.specs.declared.line.Gathered.{Gathered}

@@ -5,7 +5,7 @@ use mathlib.Core.List.{List, [], ◌∷◌, ◌++◌}
 use Prim.Native.Nat.{ℕ, ◌+◌, ◌-◌, ◌%◌, ◌^◌, min, max}
 use native.Mathlib.Omega.{arith}
 use lib.Dec.{eqb}
-use borrow.Author.Tests.{eq-eqb, ne_eqb}
+use borrow.Author.Tests.{ne_eqb}
 use Rattle.steps.specs.Bits.{bit}
 use Rattle.qsm.specs.claims.StatusFlags.{RDRF, place}
 use Rattle.tool_lines.specs.Gather.{newline, caused, damage, typed, ended, goes_on, put, shown}

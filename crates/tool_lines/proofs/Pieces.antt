@@ -6,10 +6,9 @@ use Prim.Native.Nat.{ℕ, zero, suc, ◌+◌, ◌^◌, ◌<◌, ◌≤◌}
 use native.Mathlib.Omega.{arith}
 use lib.ListN.{length, take, drop, take-append-drop, length-append}
 use lib.Seq.{length-take-le, get_or-append-add}
-use Rattle.trace.specs.Trace.{byte_at}
 use Rattle.tool_lines.specs.Call.{turned, moved_to, nothing, go_for, go_on, turn, handed_in, Calls}
 use Rattle.tool_lines.specs.Laws.{Bytes}
-use Rattle.tool_lines.specs.Pieces.{wants, waiting, rebased, Stand, Told, stands, next_piece, call_on, ahead, piece_calls, calls, InPieces, Cuts}
+use Rattle.tool_lines.specs.Pieces.{wants, waiting, rebased, Stand, Told, next_piece, call_on, ahead, piece_calls, calls, InPieces, Cuts}
 use Rattle.tool_lines.specs.declared.line.Line.{Line}
 use Rattle.tool_lines.specs.declared.line.Outcome.{Outcome}
 use Rattle.tool_lines.specs.declared.line.Outcome.TheVariants.{Nothing, Handed, Dropped, Stopped, Ended, Refused}

@@ -1,20 +1,19 @@
 -- What a schedule makes of one part of a hold, and of one record. Assumes nothing.
-use mathlib.Core.Path.{◌≡◌, refl, sym, ap, ◌∙◌}
-use mathlib.Core.Bool.{Bool, true, false, cond}
-use mathlib.Core.List.{List, [], ◌∷◌, ◌++◌}
-use Prim.Native.Nat.{ℕ, zero, suc, ◌+◌, ◌-◌, ◌/◌, ◌%◌, ◌<◌, ◌≤◌}
+use mathlib.Core.Path.{◌≡◌, refl, ap, ◌∙◌}
+use mathlib.Core.Bool.{Bool, cond}
+use mathlib.Core.List.{List, [], ◌∷◌}
+use Prim.Native.Nat.{ℕ, zero, suc, ◌+◌, ◌-◌, ◌/◌, ◌<◌, ◌≤◌}
 use native.Mathlib.Omega.{arith}
 use native.Mathlib.Nat.{div-eq_of_lt, add-div_left}
 use lib.Dec.{eqb}
 use lib.ListN.{length, drop, length-drop}
 use borrow.Author.Tests.{eq-eqb, ne_eqb}
-use Rattle.qsm.specs.declared.event.Event.{Event}
 use Rattle.qsm.specs.declared.event.Event.TheVariants.{Hold}
 use Rattle.trace.specs.Trace.{parsed}
 use Rattle.trace.specs.declared.Parsed.{Parsed}
 use Rattle.trace.specs.declared.Parsed.TheVariants.{Record, Unknown, Cut}
 use Rattle.trace.proofs.Playing.{record_within}
-use Rattle.tool_lines.specs.Schedule.{Act, plays, polls, cut, acts, since_after, clock_after, stops, Scheduled, stopped, followed, going, next, scheduled_for, scheduled}
+use Rattle.tool_lines.specs.Schedule.{plays, polls, cut, acts, since_after, clock_after, stops, Scheduled, stopped, followed, next, scheduled_for, scheduled}
 
 -- A hold that ends before the next poll.
 pub cut_quiet : (period since pins : ℕ) (rxd : Bool) (n : ℕ) → since + n < period → acts period since (Hold pins rxd n) ≡ plays (Hold pins rxd n) ∷ []

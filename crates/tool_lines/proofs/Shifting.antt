@@ -17,7 +17,7 @@ use Rattle.trace.specs.declared.Parsed.TheVariants.{Record, Unknown, Cut}
 use Rattle.tool_lines.specs.Schedule.{stops}
 use Rattle.tool_lines.specs.Call.{turned, moved_to, since_of, hold_on, event_on, event_or_stop, record_on, under_way, turn, nothing, onward, go_for, turns_left, go_on}
 use Rattle.tool_lines.specs.Pieces.{ahead}
-use Rattle.tool_lines.specs.declared.line.Outcome.TheVariants.{Stopped, Ended}
+use Rattle.tool_lines.specs.declared.line.Outcome.TheVariants.{Ended}
 use Rattle.tool_lines.specs.declared.Lines.{Lines}
 use Rattle.tool_lines.specs.declared.Turned.{Turned}
 

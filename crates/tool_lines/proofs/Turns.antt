@@ -8,7 +8,7 @@ use native.Mathlib.Nat.{mod-lt}
 use lib.Dec.{eqb, ltb, leb}
 use lib.ListN.{length, take, drop, length-drop}
 use lib.Seq.{take_all}
-use borrow.Author.Tests.{eqb-true, eqb-false, leb-false}
+use borrow.Author.Tests.{eqb-false, leb-false}
 use Rattle.qsm.specs.declared.event.Event.{Event}
 use Rattle.qsm.specs.declared.event.Event.TheVariants.{Reset, Hold}
 use Rattle.qsm.specs.declared.event.Event.TheVariants as event
@@ -19,7 +19,7 @@ use Rattle.trace.proofs.Playing.{record_within}
 use Rattle.tool_lines.specs.Schedule.{stops}
 use Rattle.tool_lines.specs.Call.{turned, moved_to, held_for, poll_now, since_of, hold_on, event_on, event_or_stop, size_of, record_on, under_way, turn, nothing, onward, go_for, turns_left, go_on}
 use Rattle.tool_lines.specs.declared.line.Outcome.{Outcome}
-use Rattle.tool_lines.specs.declared.line.Outcome.TheVariants.{Nothing, Handed, Dropped, Stopped, Ended, Refused}
+use Rattle.tool_lines.specs.declared.line.Outcome.TheVariants.{Nothing, Stopped, Ended}
 use Rattle.tool_lines.specs.declared.Lines.{Lines}
 use Rattle.tool_lines.specs.declared.Turned.{Turned}
 

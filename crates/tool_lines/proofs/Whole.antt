@@ -1,29 +1,27 @@
 -- Turn after turn and call after call, what a state means is what the calls tell. Assumes nothing.
 use mathlib.Core.Path.{◌≡◌, refl, sym, ap, subst, ◌∙◌}
 use mathlib.Core.Bool.{Bool, true, false, cond, true≢false}
-use mathlib.Core.List.{List, [], ◌∷◌, ◌++◌}
-use Prim.Native.Nat.{ℕ, zero, suc, ◌+◌, ◌-◌, ◌*◌, ◌^◌, ◌%◌, ◌<◌, ◌≤◌}
+use mathlib.Core.List.{List}
+use Prim.Native.Nat.{ℕ, zero, suc, ◌+◌, ◌-◌, ◌^◌, ◌<◌}
 use native.Mathlib.Omega.{arith}
 use native.Mathlib.Nat.{zero-mod}
 use lib.Dec.{eqb, ltb, leb}
-use lib.ListN.{length, drop, get_or, length-drop, length-append}
+use lib.ListN.{length, drop, length-drop}
 use lib.Seq.{drop-drop, get_or-drop}
-use borrow.Author.Tests.{eqb-true, eqb-false, leb-true, leb-false}
+use borrow.Author.Tests.{eqb-true, leb-true, leb-false}
 use Rattle.qsm.specs.model.State.{reset_module}
-use Rattle.qsm.specs.declared.event.Access.{Access}
 use Rattle.qsm.specs.declared.event.Event.{Event}
 use Rattle.qsm.specs.declared.event.Event.TheVariants.{Reset, Hold}
 use Rattle.qsm.specs.declared.event.Event.TheVariants as event
-use Rattle.trace.specs.Trace.{byte_at, whole, reset_kind, hold_kind, read_kind, write_kind, long_hold_kind, parsed}
+use Rattle.trace.specs.Trace.{byte_at, reset_kind, hold_kind, read_kind, write_kind, long_hold_kind, parsed}
 use Rattle.trace.specs.declared.Parsed.{Parsed}
 use Rattle.trace.specs.declared.Parsed.TheVariants.{Record, Unknown, Cut}
-use Rattle.tool_lines.specs.Schedule.{Scheduled, stops, acts, since_after, clock_after, stopped, followed, going, next, scheduled}
-use Rattle.tool_lines.specs.Gather.{Report, gather}
-use Rattle.tool_lines.specs.Replay.{notices, first_line, lines}
+use Rattle.tool_lines.specs.Schedule.{stops, acts, since_after, clock_after, stopped, followed, going, next, scheduled}
+use Rattle.tool_lines.specs.Gather.{gather}
+use Rattle.tool_lines.specs.Replay.{notices, first_line}
 use Rattle.tool_lines.specs.Noise.{silent, hears, noises}
-use Rattle.tool_lines.specs.Call.{started, turned, moved_to, held_for, poll_now, since_of, hold_on, event_on, event_or_stop, record_on, under_way, turn, nothing, onward, go_for, turns_left, go_on}
-use Rattle.tool_lines.specs.Laws.{Replayed, replayed, remaining, meant, telling, over_and_over, Bytes, Whole, FromStart}
-use Rattle.tool_lines.specs.declared.line.Line.{Line}
+use Rattle.tool_lines.specs.Call.{turned, moved_to, held_for, poll_now, since_of, hold_on, event_on, event_or_stop, record_on, under_way, turn, nothing, go_for, turns_left, go_on}
+use Rattle.tool_lines.specs.Laws.{Replayed, replayed, meant, telling, over_and_over, Bytes, Whole, FromStart}
 use Rattle.tool_lines.specs.declared.line.Outcome.{Outcome}
 use Rattle.tool_lines.specs.declared.line.Outcome.TheVariants.{Nothing, Handed, Dropped, Stopped, Ended, Refused}
 use Rattle.tool_lines.specs.declared.Lines.{Lines}

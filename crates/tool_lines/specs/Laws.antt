@@ -12,7 +12,6 @@ use Rattle.tool_lines.specs.declared.line.Outcome.{Outcome}
 use Rattle.tool_lines.specs.declared.line.Outcome.TheVariants.{Nothing, Handed, Dropped, Stopped, Ended, Refused}
 use Rattle.tool_lines.specs.declared.noise.Noise.{Noise}
 use Rattle.tool_lines.specs.declared.Lines.{Lines}
-use Rattle.tool_lines.specs.declared.Turned.{Turned}
 
 -- Lines and drops in order, the noise of each, and the refusal that the replay stopped with, or 0 at the end of the trace.
 pub record Replayed : Type 0 where

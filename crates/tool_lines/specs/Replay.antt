@@ -1,5 +1,5 @@
 -- Document 02, L8: a trace played with polling put in. The events that the module gets, what its polls show, and the lines that come of them.
-use Rattle.std.specs.Prelude.{cond, List, [], ◌∷◌, ◌++◌, ℕ, replicate}
+use Rattle.std.specs.Prelude.{List, [], ◌∷◌, ◌++◌, ℕ, replicate}
 use Rattle.qsm.specs.model.State.{reset_module}
 use Rattle.qsm.specs.model.Event.{does}
 use Rattle.qsm.specs.declared.state.Module.{Module}
@@ -7,7 +7,7 @@ use Rattle.qsm.specs.declared.event.Event.{Event}
 use Rattle.qsm.specs.declared.event.Event.TheVariants.{Reset, Hold}
 use Rattle.qsm.specs.declared.event.Event.TheVariants as event
 use Rattle.tool_lines.specs.Poll.{poll_events, polled}
-use Rattle.tool_lines.specs.Schedule.{Act, plays, polls, Scheduled, scheduled}
+use Rattle.tool_lines.specs.Schedule.{Act, plays, polls, scheduled}
 use Rattle.tool_lines.specs.Gather.{Notice, was_reset, showed, Report, gather, most}
 use Rattle.tool_lines.specs.declared.line.Line.{Line}
 

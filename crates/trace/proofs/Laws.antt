@@ -10,7 +10,7 @@ use lib.Seq.{length-take-le, take-append-le, drop-append-le, drop-drop, take_at,
 use Rattle.qsm.specs.declared.state.Module.{Module}
 use Rattle.qsm.specs.declared.event.Event.{Event}
 use Rattle.qsm.specs.model.Event.{step}
-use Rattle.trace.specs.Trace.{byte_at, by_kind, parsed, answer_length, reader}
+use Rattle.trace.specs.Trace.{byte_at, by_kind, answer_length, reader}
 use Rattle.trace.specs.Play.{Outcome, answered, followed, play}
 use Rattle.trace.specs.declared.Parsed.{Parsed}
 use Rattle.trace.specs.declared.Parsed.TheVariants.{Record, Unknown, Cut}

@@ -21,7 +21,7 @@ use Rattle.qsm.proofs.Splitting.{splits, refused_in_parts}
 use Rattle.trace.specs.Trace.{byte_at, long_hold_kind, by_kind, every_kind, earlier, parsed_by, parsed, answer_length, answer_bytes, Reader, reader}
 use Rattle.trace.specs.Play.{Outcome, stopped, answered_by, answered, followed, turn, play_for, play_by, play}
 use Rattle.trace.specs.Laws.{unknown, record_length, Each, with_stop, unread}
-use Rattle.trace.specs.LongHolds.{kinds_for, document01, Same, AsMany, SameLogs, StopsBefore05, GoesOn, EveryCount, SplitRecords, plain, longest, Met, LongHolds}
+use Rattle.trace.specs.LongHolds.{kinds_for, document01, Same, SameLogs, StopsBefore05, GoesOn, EveryCount, SplitRecords, plain, longest, Met, LongHolds}
 use Rattle.trace.specs.declared.Parsed.{Parsed}
 use Rattle.trace.specs.declared.Parsed.TheVariants.{Record, Unknown, Cut}
 use Rattle.trace.proofs.Playing.{taken, record_within, otherwise, unroll, play_none, one_on, followed_assoc, record_kept, kind_told, played}

@@ -3,7 +3,6 @@
 use Rattle.std.specs.Prelude.{◌≡◌, Bool, true, false, not, cond, List, [], ◌∷◌, ◌++◌, ℕ, zero, suc, ◌+◌, ◌-◌, ◌/◌, ◌%◌, ◌^◌, ◌<◌, ◌≤◌, eqb, length, take, drop}
 use Rattle.qsm.specs.model.Event.{passes}
 use Rattle.qsm.specs.declared.state.Module.{Module}
-use Rattle.qsm.specs.declared.event.Answer.{Answer}
 use Rattle.qsm.specs.declared.event.Event.TheVariants.{Hold}
 use Rattle.answers.specs.Answer as answers
 use Rattle.trace.specs.Trace.{byte_at, long_hold_kind, earlier, parsed, answer_body, answer_length, Reader}

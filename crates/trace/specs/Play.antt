@@ -1,5 +1,5 @@
 -- Document 01, Trace and refusals 5 to 7, and refusal 10 (02, L9): what playing a trace into so much room answers and leaves.
-use Rattle.std.specs.Prelude.{◌≡◌, Bool, cond, ℕ, zero, suc, ◌-◌, ◌*◌, eqb, ltb, length, take, drop}
+use Rattle.std.specs.Prelude.{◌≡◌, cond, ℕ, zero, suc, ◌-◌, ◌*◌, eqb, ltb, length, take, drop}
 use mathlib.Core.List.{List, [], ◌∷◌, ◌++◌, flatten}
 use Rattle.qsm.specs.model.Event.{step}
 use Rattle.qsm.specs.claims.Count.{limited}

@@ -1,6 +1,3 @@
-use Rattle.tool_lines.proofs.line.damage.Reads as reads
-use Rattle.tool_lines.proofs.line.damage.Lts as lts
-use Rattle.steps.proofs.choose.Reads as choose-reads
 use Rattle.tool_lines.proofs.line.damage.Goals as goal
 
 -- src/line.rt:51:1

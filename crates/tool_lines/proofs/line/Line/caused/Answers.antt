@@ -1,6 +1,3 @@
-use Rattle.tool_lines.proofs.line.Line.caused.Reads as reads
-use Rattle.tool_lines.proofs.line.Line.caused.Lts as lts
-use Rattle.steps.proofs.choose.Reads as choose-reads
 use Rattle.tool_lines.proofs.line.Line.caused.Goals as goal
 
 -- src/line.rt:79:5

@@ -1,6 +1,3 @@
-use Rattle.tool_lines.proofs.line.Line.caused_if.Reads as reads
-use Rattle.tool_lines.proofs.line.Line.caused_if.Lts as lts
-use Rattle.tool_lines.proofs.line.Line.caused.Reads as caused-reads
 use Rattle.tool_lines.proofs.line.Line.caused_if.Goals as goal
 
 -- src/line.rt:86:5

@@ -1,6 +1,3 @@
-use Rattle.tool_lines.proofs.line.Line.following.Reads as reads
-use Rattle.tool_lines.proofs.line.Line.following.Lts as lts
-use Rattle.tool_lines.proofs.line.next_number.Reads as next-number-reads
 use Rattle.tool_lines.proofs.line.Line.following.Goals as goal
 
 -- src/line.rt:113:5

@@ -1,7 +1,3 @@
-use Rattle.tool_lines.proofs.line.Line.put_if.Reads as reads
-use Rattle.tool_lines.proofs.line.Line.put_if.Lts as lts
-use Rattle.tool_lines.proofs.line.Line.goes_on.Reads as goes-on-reads
-use Rattle.tool_lines.proofs.line.Line.put.Reads as put_reads
 use Rattle.tool_lines.proofs.line.Line.put_if.Goals as goal
 
 -- src/line.rt:167:5
