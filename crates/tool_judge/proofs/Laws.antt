@@ -1,9 +1,9 @@
 -- The laws of specs/Laws. Assumes nothing.
-use mathlib.Core.Path.{◌≡◌, refl, sym, ap, subst, ◌∙◌}
+use mathlib.Core.Path.{◌≡◌, refl, sym, ap, ◌∙◌}
 use mathlib.Core.Bool.{Bool, true, false, cond, true≢false}
 use mathlib.Core.Logic.{◌⊎◌, inl, inr}
-use mathlib.Core.List.{List, [], ◌∷◌, ◌++◌, flatten, append_assoc, append-nil}
-use Prim.Native.Nat.{ℕ, zero, suc, ◌+◌, ◌-◌, ◌*◌, ◌/◌, ◌<◌, ◌≤◌, min}
+use mathlib.Core.List.{List, [], ◌∷◌, ◌++◌, flatten}
+use Prim.Native.Nat.{ℕ, zero, suc, ◌+◌, ◌-◌, ◌*◌, ◌<◌, ◌≤◌, min}
 use native.Mathlib.Omega.{arith}
 use lib.Dec.{eqb, ltb}
 use lib.ListN.{length, take, drop, length-append, length-drop}
@@ -11,7 +11,6 @@ use lib.Seq.{length-take-le, take-add, take-take, drop-append-le, take-append-le
 use borrow.Author.Tests.{le-ltb, eq-eqb, eqb-true, eqb-false}
 use Rattle.qsm.specs.model.State.{reset_module}
 use Rattle.qsm.specs.declared.state.Module.{Module}
-use Rattle.qsm.specs.declared.event.Event.{Event}
 use Rattle.qsm.specs.model.Event.{step}
 use Rattle.qsm.specs.claims.Count.{limited}
 use Rattle.trace.specs.Trace.{parsed, answer_length, reader}
@@ -20,15 +19,14 @@ use Rattle.trace.specs.Laws.{unread}
 use Rattle.trace.specs.declared.Parsed.{Parsed}
 use Rattle.trace.specs.declared.Parsed.TheVariants.{Record, Unknown, Cut}
 use Rattle.trace.proofs.Playing.{record_within, play_none, played}
-use Rattle.trace.proofs.Laws.{bytes_each, answers_fit, records_read, read_within, resumes}
+use Rattle.trace.proofs.Laws.{bytes_each, answers_fit, read_within, resumes}
 use Rattle.answers.specs.declared.Field.{Field}
-use Rattle.tool_judge.specs.Verdict.{alike, equal, first_wrong, wrong_in, verdict, numbered, before}
-use Rattle.tool_judge.specs.Judge.{enough, expected, judged, room_of, walked_to, walked}
+use Rattle.tool_judge.specs.Verdict.{alike, first_wrong, wrong_in, verdict, numbered, before}
+use Rattle.tool_judge.specs.Judge.{enough, expected, room_of, walked_to}
 use Rattle.tool_judge.specs.Claims.{OwnAccepted, AcceptedEqual, answer, FirstDiffering, StopTold, afterwards, InParts, Met, Claims}
 use Rattle.tool_judge.specs.declared.Verdict.{Verdict}
 use Rattle.tool_judge.specs.declared.Verdict.TheVariants.{Accepted, Wrong}
-use Rattle.tool_judge.specs.declared.Walked.{Walked}
-use Rattle.tool_judge.proofs.Beginnings.{alike_left, alike_right, alike_self, alike_equal}
+use Rattle.tool_judge.proofs.Beginnings.{alike_self, alike_equal}
 use Rattle.tool_judge.proofs.Verdicts.{accepted, none_right, none_wrong, joined}
 use Rattle.tool_judge.proofs.Walking.{drop_take}
 

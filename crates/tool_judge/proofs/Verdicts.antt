@@ -1,8 +1,8 @@
 -- The verdict on one answer, on a log without one, and on logs that are put together. Assumes nothing.
 use mathlib.Core.Path.{◌≡◌, refl, sym, ap, ◌∙◌}
 use mathlib.Core.Bool.{Bool, true, false, cond, ◌&&◌, ◌||◌}
-use mathlib.Core.List.{List, [], ◌∷◌, ◌++◌}
-use Prim.Native.Nat.{ℕ, zero, suc, ◌+◌, ◌-◌, ◌*◌, ◌/◌, ◌%◌, ◌<◌, ◌≤◌, min}
+use mathlib.Core.List.{List, [], ◌++◌}
+use Prim.Native.Nat.{ℕ, suc, ◌+◌, ◌*◌, ◌/◌, ◌%◌, ◌<◌, ◌≤◌, min}
 use native.Mathlib.Omega.{arith}
 use lib.Dec.{eqb, ltb}
 use lib.ListN.{length, take, drop, length-append, length-drop, length-take}
@@ -14,7 +14,7 @@ use Rattle.answers.specs.declared.Field.TheVariants.{Kind}
 use Rattle.tool_judge.specs.Verdict.{alike, equal, first_wrong, short, wrong_in, verdict, numbered, before}
 use Rattle.tool_judge.specs.declared.Verdict.{Verdict}
 use Rattle.tool_judge.specs.declared.Verdict.TheVariants.{Accepted, Wrong}
-use Rattle.tool_judge.proofs.Beginnings.{alike_left, alike_right, alike_front, alike_past, alike_take, alike_self, alike_equal}
+use Rattle.tool_judge.proofs.Beginnings.{alike_left, alike_right, alike_front, alike_past, alike_take}
 
 -- ---- tests that come to the same
 

@@ -1,7 +1,6 @@
 -- The invariant of the walk beside a log, and what each way out of a turn makes of it. Assumes nothing.
-use mathlib.Core.Path.{◌≡◌, refl, sym, ap, subst, ◌∙◌}
-use mathlib.Core.Bool.{Bool, true, false, cond, not, ◌&&◌, true≢false}
-use mathlib.Core.Logic.{inl, inr}
+use mathlib.Core.Path.{◌≡◌, refl, sym, ap, ◌∙◌}
+use mathlib.Core.Bool.{Bool, true, false, not, ◌&&◌, true≢false}
 use mathlib.Core.List.{List, [], ◌∷◌, ◌++◌, append-nil, flatten}
 use Prim.Native.Nat.{ℕ, zero, suc, ◌+◌, ◌-◌, ◌*◌, ◌<◌, ◌≤◌, min}
 use native.Mathlib.Omega.{arith}
@@ -9,8 +8,6 @@ use lib.Dec.{eqb, ltb}
 use lib.ListN.{length, take, drop, replicate, length-append, length-drop, drop_of_length-le}
 use lib.Seq.{length-take-le, drop-drop, take_all, take-take, take-nil, drop-append_seam}
 use borrow.Author.Tests.{lt-ltb, le-ltb, ltb-true, ltb-false, eq-eqb, ne_eqb}
-use types.Run.{OneOf}
-use denote.Enum.Declared.{tag_of}
 use Rattle.qsm.specs.declared.state.Module.{Module}
 use Rattle.qsm.specs.declared.event.Event.{Event}
 use Rattle.qsm.specs.declared.event.Stepped.{Stepped}
@@ -21,11 +18,10 @@ use Rattle.trace.specs.Trace.{parsed, answer_length, answer_bytes, reader}
 use Rattle.trace.specs.Play.{Outcome, refusal_of, stopped, answered, followed, turn, play}
 use Rattle.trace.specs.declared.Parsed.{Parsed}
 use Rattle.trace.specs.declared.Parsed.TheVariants.{Record, Unknown, Cut}
-use Rattle.trace.specs.contracts.Parsed as P
 use Rattle.trace.proofs.Playing.{unroll, play_none, record_within, one_on, followed_assoc}
-use Rattle.trace.proofs.Going.{rest, flatten_snoc, refused}
+use Rattle.trace.proofs.Going.{rest, flatten_snoc}
 use Rattle.tool_judge.specs.Verdict.{verdict, numbered, before}
-use Rattle.tool_judge.specs.Judge.{enough, room_of, walked_to, last_of, ran}
+use Rattle.tool_judge.specs.Judge.{room_of, walked_to, last_of, ran}
 use Rattle.tool_judge.specs.declared.Verdict.{Verdict}
 use Rattle.tool_judge.specs.declared.Verdict.TheVariants.{Accepted}
 use Rattle.tool_judge.specs.declared.Ran.{Ran}
@@ -89,6 +85,12 @@ last_added xs bs whole =
     let place : length (xs ++ bs) - answer_length ≡ length xs = omega (arith, long) in
     rw (some, place) (drop-append_seam xs bs)
 
+-- What is no record, or is cut, stops the trace.
+refused : (m : Module) (t : List ℕ) (room : ℕ) (p : Parsed) → ((e : Event) (size : ℕ) → p ≡ Record e size → ⊥) → turn reader play m t room p ≡ stopped m (refusal_of p)
+refused m t room (Record e size) other = absurd (other e size refl)
+refused m t room Unknown other = refl
+refused m t room Cut other = refl
+
 -- ---- the invariant
 
 -- The whole is what was played so far, on whose answers the verdict is, and then the rest of the trace from here.
@@ -147,11 +149,11 @@ module _ (t log : List ℕ) (last : Bool) (m₀ m : Module) (at passed n : ℕ) 
     some = simp length-drop (omega arith)
 
     -- Before what is no record, or is cut.
-    pub at_refusal : (p : Parsed) (why : ℕ) → p ≡ parsed (take (length t - at) (drop at t)) → OneOf (1 ∷ 2 ∷ []) (tag_of P.the_type p) → why ≡ refusal_of p
+    pub at_refusal : (p : Parsed) (why : ℕ) → p ≡ parsed (take (length t - at) (drop at t)) → ((e : Event) (size : ℕ) → p ≡ Record e size → ⊥) → why ≡ refusal_of p
         → left m why ≡ ran m₀ t log last
-    at_refusal p why is keys e =
+    at_refusal p why is other e =
         leaves why (unroll reader m (drop at t) room some ∙ ap (turn reader play m (drop at t) room) (sym (is ∙ ap parsed (rest t at)))
-        ∙ refused m (drop at t) room p keys ∙ ap (stopped m) (sym e))
+        ∙ refused m (drop at t) room p other ∙ ap (stopped m) (sym e))
 
     module _ (p : Parsed) (e : Event) (size : ℕ) (is : p ≡ parsed (take (length t - at) (drop at t))) (whole : p ≡ Record e size)
         (here : ℕ) (is-here : here ≡ min answer_length (length log - passed)) (w : Bool) (is-w : w ≡ not last && ltb here answer_length) where

@@ -1,5 +1,5 @@
 -- Document 02, L12: what the judge's verdict says of a log, and that parts of a trace and a log give what the whole gives.
-use Rattle.std.specs.Prelude.{◌≡◌, Bool, false, List, [], ◌∷◌, ◌++◌, ℕ, ◌+◌, ◌*◌, ◌≤◌, length, take, drop}
+use Rattle.std.specs.Prelude.{◌≡◌, Bool, false, List, [], ◌∷◌, ◌++◌, ℕ, ◌+◌, ◌*◌, ◌≤◌, take, drop}
 use Rattle.qsm.specs.model.State.{reset_module}
 use Rattle.qsm.specs.declared.state.Module.{Module}
 use Rattle.trace.specs.Trace.{answer_length}
@@ -8,8 +8,6 @@ use Rattle.answers.specs.declared.Field.{Field}
 use Rattle.answers.specs.declared.Field.TheVariants.{Kind}
 use Rattle.tool_judge.specs.Verdict.{numbered, before}
 use Rattle.tool_judge.specs.Judge.{enough, expected, judged, walked}
-use Rattle.tool_judge.specs.declared.Judged.{Judged}
-use Rattle.tool_judge.specs.declared.Verdict.{Verdict}
 use Rattle.tool_judge.specs.declared.Verdict.TheVariants.{Accepted, Wrong}
 use Rattle.tool_judge.specs.declared.Walked.{Walked}
 

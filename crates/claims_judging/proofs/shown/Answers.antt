@@ -4,10 +4,9 @@ use Rattle.claims_judging.proofs.FirstWrong.{first_wrong_holds, accepts}
 use Rattle.claims_judging.proofs.Parts.{parts_after_log}
 use Rattle.claims_judging.proofs.Fields.{answer_fields}
 use Rattle.claims_judging.proofs.Cases.{cases, in_numbers_holds}
-use Rattle.claims_judging.proofs.shown.Statement.{statement}
-use Rattle.claims_judging.proofs.shown.Tie as tie
+use Rattle.claims_judging.proofs.shown.Goals as goal
 
-returns : tie.Need-returns
+pub returns : goal.returns
 returns c = (
   refl,
   record {
@@ -20,6 +19,3 @@ returns c = (
     in_numbers_holds = in_numbers_holds;
   },
 )
-
-pub shown-spec : {M : Type 1} → statement M
-shown-spec = tie.close (tie.spec returns)

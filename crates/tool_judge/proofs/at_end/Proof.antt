@@ -1,9 +1,0 @@
-use borrow.Author.Rules.{rules}
-use Rattle.tool_judge.proofs.at_end.Statement.{statement}
-use Rattle.tool_judge.proofs.at_end.Tie as tie
-
-returns : tie.Need-returns
-returns c = rw c.if1.true
-
-pub at-end-spec : {M : Type 1} → statement M
-at-end-spec = tie.close (tie.spec returns (λ c. search rules))
