@@ -1,7 +1,7 @@
 -- L14, lifted from the serial half to the module's events.
 use mathlib.Core.Path.{◌≡◌, refl, ap, sym, subst, ◌∙◌}
 use mathlib.Core.Bool.{false}
-use mathlib.Core.List.{List, [], ◌∷◌, ◌++◌}
+use mathlib.Core.List.{List, [], ◌∷◌}
 use Rattle.sci.specs.model.Serial.{reset_sci}
 use Rattle.sci.specs.claims.History as sci
 use Rattle.sci.specs.claims.Overrun.{Mark, has_reset}
@@ -13,14 +13,12 @@ use Rattle.sci.proofs.Balance as serial
 use Rattle.qsm.specs.model.State.{reset_module}
 use Rattle.qsm.specs.declared.state.Module.{Module}
 use Rattle.qsm.specs.declared.event.Event.{Event}
-use Rattle.qsm.specs.declared.event.Event.TheVariants.{Reset}
 use Rattle.qsm.specs.model.Event.{step}
 use Rattle.trace.specs.Records.{events, leaves}
 use Rattle.claims_histories.specs.History.{run, log}
 use Rattle.claims_histories.proofs.Lifted.{all, all_log, from_reset, reset_serial, afresh, stepped}
 use Rattle.reception.specs.Report.{report}
 use Rattle.claims_account.specs.Claims.{Balanced, SinceReset, since_last, WithResets, AsPlayed, OfRecords, Claims}
-use Rattle.reception.specs.declared.account.Report.{Report}
 use Rattle.claims_account.proofs.Since.{no_reset, from_start}
 
 -- The marks and the serial half of a module since a reset are those of its steps.

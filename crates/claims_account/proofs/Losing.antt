@@ -2,7 +2,7 @@
 use mathlib.Core.Bool.{Bool, true, false}
 use mathlib.Core.List.{List}
 use mathlib.Core.Path.{◌≡◌, refl, ap, subst, ◌∙◌}
-use Prim.Native.Nat.{ℕ, ◌+◌}
+use Prim.Native.Nat.{◌+◌}
 use native.Mathlib.Omega.{arith}
 use Rattle.steps.specs.Bits.{digit}
 use Rattle.steps.specs.Iterate.{iterate}
@@ -21,10 +21,9 @@ use Rattle.qsm.specs.model.Access.{store, stored}
 use Rattle.qsm.specs.model.Decision.{admitted, decide_read, stored_by, decide_stored, decide_write}
 use Rattle.qsm.specs.model.Event.{does}
 use Rattle.qsm.specs.model.Event as events
-use Rattle.claims_histories.specs.History.{run, log}
+use Rattle.claims_histories.specs.History.{log}
 use Rattle.claims_histories.proofs.Room.{since_plain}
 use Rattle.claims_histories.proofs.Lifted.{all}
-use Rattle.reception.specs.Report.{report}
 use Rattle.claims_account.specs.Claims.{Balanced}
 use Rattle.claims_account.specs.Losing.{unread, asleep, addressed, Losing}
 use Rattle.reception.specs.declared.account.Report.{Report}

@@ -32,7 +32,7 @@ use Rattle.qsm.specs.declared.event.Event.{Event}
 use Rattle.qsm.specs.declared.event.Event.TheVariants.{Reset, Hold}
 use Rattle.qsm.specs.declared.event.Event.TheVariants as event
 use Rattle.claims_histories.specs.History.{after, run, played_clocks, ops, log}
-use Rattle.claims_polling.specs.Spacing.{apart, samples_of, cut}
+use Rattle.claims_polling.specs.Spacing.{samples_of, cut}
 use Rattle.claims_polling.specs.Rule.{waiting, started}
 use Rattle.claims_polling.proofs.Losing.{harmless, harmless_unbroken}
 use Rattle.claims_deadlines.specs.Deadline.{age_after, age_for, InTimeFor, InTime, since_end, FarEnough, SpacedFrom}

@@ -20,7 +20,7 @@ use Rattle.sci.proofs.Wires as half
 use Rattle.qsm.specs.model.State.{reset_module}
 use Rattle.qsm.specs.declared.state.Module.{Module}
 use Rattle.claims_histories.specs.History.{run}
-use Rattle.claims_histories.specs.Demand2.{Two, halves, wire_level, clock, play, clocks_in, Frame, begun, ended, period, width, Begins, Sends, Received, Waits, Word, AllSent, AllRead, AllReceived, ArriveInTurn, BeginsAtOne}
+use Rattle.claims_histories.specs.Demand2.{Two, halves, wire_level, play, clocks_in, Frame, begun, ended, period, width, Begins, Sends, Received, Waits, Word, AllSent, AllRead, AllReceived, ArriveInTurn, BeginsAtOne}
 use Rattle.claims_histories.proofs.Lifted.{all, from_reset}
 use Rattle.claims_histories.proofs.Pin.{wire_driven}
 use Rattle.claims_histories.proofs.Joined.{Plain, project, clock_halves, project_steps, project_unchanged, project_rests, project_clocks, rests_plain, Drives, drives_plain}

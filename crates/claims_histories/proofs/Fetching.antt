@@ -20,7 +20,7 @@ use Rattle.qsm.specs.model.Serial.{peek_serial}
 use Rattle.qsm.specs.model.Word.{peek}
 use Rattle.qsm.specs.model.Access.{fetch, fetched}
 use Rattle.qsm.specs.model.Decision.{permits, decide_read}
-use Rattle.qsm.specs.model.Event.{read_value, step}
+use Rattle.qsm.specs.model.Event.{read_value}
 use Rattle.qsm.specs.declared.state.Module.{Module}
 use Rattle.claims_histories.specs.History.{after, reads_status, reads_data, log, event_marks}
 use Rattle.claims_histories.specs.Sentence.{Reads}

@@ -1,15 +1,14 @@
 -- Where the clocks stay within 2^64 - 1, every hold is played. Assumes nothing.
-use mathlib.Core.Path.{◌≡◌, refl, sym, ap, ◌∙◌}
+use mathlib.Core.Path.{◌≡◌, refl, ap, ◌∙◌}
 use mathlib.Core.Bool.{Bool, true, false, cond}
 use mathlib.Core.List.{List, [], ◌∷◌, ◌++◌}
-use Prim.Native.Nat.{ℕ, suc, ◌+◌, ◌≤◌, ◌<◌}
+use Prim.Native.Nat.{ℕ, ◌+◌, ◌≤◌}
 use native.Mathlib.Omega.{arith}
 use Rattle.sci.specs.claims.History.{Step}
 use Rattle.sci.proofs.History.{clocks}
 use Rattle.sci.proofs.Lift.{steps_of}
 use Rattle.qsm.specs.model.State.{reset_module}
 use Rattle.qsm.specs.model.Event.{clock_limit, passes, step}
-use Rattle.qsm.specs.claims.Count.{limited}
 use Rattle.qsm.specs.declared.state.Module.{Module}
 use Rattle.qsm.specs.declared.event.Access.{Access}
 use Rattle.qsm.specs.declared.event.Event.{Event}

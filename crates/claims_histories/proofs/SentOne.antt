@@ -25,7 +25,6 @@ use Rattle.qsm.specs.model.Serial.{serial_unmodelled, serial_guarded}
 use Rattle.qsm.specs.model.Access.{store, stored}
 use Rattle.qsm.specs.model.Decision.{permits, admitted, decide_read, stored_by, decide_stored, decide_write}
 use Rattle.qsm.specs.declared.state.Module.{Module}
-use Rattle.qsm.specs.declared.event.Access.{Access}
 use Rattle.qsm.specs.declared.event.Access.TheVariants.{Write}
 use Rattle.qsm.specs.declared.event.Event.TheVariants as event
 use Rattle.claims_histories.specs.History.{breaks}

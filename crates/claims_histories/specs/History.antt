@@ -11,7 +11,6 @@ use Rattle.qsm.specs.model.Lanes.{touches}
 use Rattle.qsm.specs.model.Decision.{permits, decide_read, decide_write}
 use Rattle.qsm.specs.model.Event.{passes, held, clock_module, does}
 use Rattle.qsm.specs.declared.state.Module.{Module}
-use Rattle.qsm.specs.declared.event.Access.{Access}
 use Rattle.qsm.specs.declared.event.Access.TheVariants.{Read, Write}
 use Rattle.qsm.specs.declared.event.Event.{Event}
 use Rattle.qsm.specs.declared.event.Event.TheVariants.{Reset, Hold}

@@ -23,7 +23,7 @@ use Rattle.qsm.specs.model.Event as events
 use Rattle.qsm.specs.claims.StatusFlags.{SCI, read_at, status}
 use Rattle.qsm.specs.declared.state.Module.{Module}
 use Rattle.qsm.proofs.StatusFlags.{scsr_bit}
-use Rattle.claims_histories.specs.History.{after, run, fresh_word}
+use Rattle.claims_histories.specs.History.{after, fresh_word}
 use Rattle.claims_histories.proofs.Follows.{steps, follows}
 use Rattle.tool_lines.specs.Poll.{status_read, data_read, calls, poll_events, looked, polled}
 use Rattle.claims_polling.proofs.Full.{polled_at}

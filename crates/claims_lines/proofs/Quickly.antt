@@ -1,9 +1,9 @@
 -- A line is dropped for OR only where a frame was lost. Assumes nothing.
-use mathlib.Core.Path.{◌≡◌, refl, sym, ap, subst, ◌∙◌}
+use mathlib.Core.Path.{◌≡◌, refl, sym, ap, ◌∙◌}
 use mathlib.Core.Bool.{Bool, true, false, cond, true≢false}
 use mathlib.Core.List.{List, [], ◌∷◌, ◌++◌, append_assoc}
 use mathlib.Core.Logic.{◌⊎◌, inl, inr}
-use Prim.Native.Nat.{ℕ, zero, suc, ◌+◌}
+use Prim.Native.Nat.{ℕ, suc, ◌+◌}
 use native.Mathlib.Omega.{arith}
 use lib.Dec.{eqb, ltb}
 use Rattle.qsm.specs.model.State.{reset_module}
@@ -20,11 +20,11 @@ use Rattle.claims_polling.specs.Replays.{replayed}
 use Rattle.claims_polling.proofs.Joined.{run_joined, log_joined, lost_joined}
 use Rattle.claims_polling.proofs.Losing.{harmless, harmless_unbroken}
 use Rattle.claims_polling.proofs.Replaying.{poll_run, replay_kept}
-use Rattle.claims_lines.specs.Happened.{Damage, Happening, frame_lost, word_came, status_read, word_delivered, was_reset, marks_of, happened}
-use Rattle.claims_lines.specs.Segment.{letters_of, or_else, damaged, cause_from, cause_of, report_of, Line}
+use Rattle.claims_lines.specs.Happened.{Damage, Happening, frame_lost, word_came, status_read, word_delivered, was_reset, marks_of}
+use Rattle.claims_lines.specs.Segment.{letters_of, or_else, damaged, cause_from, cause_of, Line}
 use Rattle.claims_lines.specs.Claims.{heard, Dropped, AllTold}
-use Rattle.claims_lines.specs.Witness.{on, hold}
-use Rattle.claims_lines.specs.Quick.{NotFor, NoneLost, Ruled, QuickEnough, Such}
+use Rattle.claims_lines.specs.Witness.{hold}
+use Rattle.claims_lines.specs.Quick.{NotFor, NoneLost, QuickEnough, Such}
 use Rattle.claims_lines.proofs.Marked.{marks_joined, as_marked_holds}
 use Rattle.claims_lines.proofs.Lines.{from_wire_holds}
 use Rattle.steps.specs.Iterate.{iterate}

@@ -14,9 +14,9 @@ use Rattle.qsm.specs.declared.event.Event.TheVariants.{Reset, Hold}
 use Rattle.qsm.specs.declared.event.Event.TheVariants as event
 use Rattle.claims_histories.specs.History.{after, run, played_clocks}
 use Rattle.claims_histories.proofs.Follows.{follows}
-use Rattle.tool_lines.specs.Poll.{status_read, data_read, poll_events, looked, polled}
+use Rattle.tool_lines.specs.Poll.{data_read, poll_events, looked, polled}
 use Rattle.tool_lines.specs.Schedule.{Act, plays, polls, reaches}
-use Rattle.tool_lines.specs.Gather.{was_reset, Report, shown, forgotten, reported, gather}
+use Rattle.tool_lines.specs.Gather.{Report, shown, forgotten, reported, gather}
 use Rattle.tool_lines.specs.Replay.{events_of, notices}
 use Rattle.tool_lines.specs.declared.line.Line.{Line}
 use Rattle.tool_lines.specs.declared.line.Gathered.{Gathered}

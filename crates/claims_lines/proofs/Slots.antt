@@ -24,7 +24,7 @@ use Rattle.sci.proofs.Figures.{figures}
 use Rattle.sci.proofs.Rising.{rdrf_after, or_after, fe_after, pf_after}
 use Rattle.sci.proofs.Reachable.{turned, clock_turned}
 use Rattle.claims_polling.proofs.Full.{full_sets}
-use Rattle.claims_lines.specs.Happened.{Damage, Happening, frame_lost, word_came, damage_of, taken, sampled, clock_happens}
+use Rattle.claims_lines.specs.Happened.{Damage, Happening, frame_lost, word_came, damage_of, sampled, clock_happens}
 
 -- The word in SCDR with its flags, and whether a frame was lost since.
 pub record Slot : Type 0 where

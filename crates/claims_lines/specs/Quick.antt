@@ -1,8 +1,6 @@
 -- Document 02, L8: with polls that are close enough no line is dropped for OR.
 use Rattle.std.specs.Prelude.{Bool, true, false, List, [], ◌∷◌, ◌++◌, ◌≡◌, ℕ, ◌<◌, ◌≤◌}
 use Rattle.qsm.specs.model.State.{reset_module}
-use Rattle.qsm.specs.declared.state.Module.{Module}
-use Rattle.qsm.specs.declared.event.Event.{Event}
 use Rattle.claims_histories.specs.History.{run, Unbroken, log}
 use Rattle.tool_lines.specs.Schedule.{Act, scheduled}
 use Rattle.tool_lines.specs.Gather.{Report, handed, dropped, overrun}

@@ -4,7 +4,7 @@ use mathlib.Core.Bool.{Bool, true, false, cond, true≢false}
 use mathlib.Core.List.{List, [], ◌∷◌, ◌++◌, append_assoc, append-nil}
 use Prim.Native.Nat.{ℕ, zero, suc, ◌+◌, ◌-◌, ◌%◌, ◌<◌, ◌≤◌}
 use native.Mathlib.Omega.{arith}
-use native.Mathlib.Nat.{mod_self, mod-lt, mod-eq_of_lt, add-mod_left}
+use native.Mathlib.Nat.{mod-lt, mod-eq_of_lt, add-mod_left}
 use lib.Dec.{eqb, ltb}
 use lib.ListN.{length, drop}
 use borrow.Author.Tests.{eqb-true, ltb-true, ltb-false}
@@ -20,7 +20,7 @@ use Rattle.trace.specs.declared.Parsed.{Parsed}
 use Rattle.trace.specs.declared.Parsed.TheVariants.{Record, Unknown, Cut}
 use Rattle.claims_histories.specs.History.{after, run, Unbroken, log}
 use Rattle.tool_lines.specs.Poll.{calls, looked, taking, polled, poll_events}
-use Rattle.tool_lines.specs.Schedule.{Act, plays, polls, acts, since_after, clock_after, stops, Scheduled, next, scheduled_for, scheduled, cut}
+use Rattle.tool_lines.specs.Schedule.{Act, plays, polls, acts, stops, Scheduled, next, scheduled_for, scheduled, cut}
 use Rattle.tool_lines.specs.Replay.{events_of}
 use Rattle.tool_lines.proofs.Schedules.{cut_quiet, cut_poll}
 use Rattle.claims_polling.specs.Rule.{clocks_in, lost_in, waiting, longest, MovingIn, started}

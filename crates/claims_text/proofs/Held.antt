@@ -2,8 +2,8 @@
 use mathlib.Core.Path.{◌≡◌, refl, ap, sym, subst, ◌∙◌}
 use mathlib.Core.Bool.{Bool, true, false, cond}
 use mathlib.Core.List.{List, [], ◌∷◌, ◌++◌, append_assoc, append-nil}
-use mathlib.Core.Logic.{◌⊎◌, inl, inr}
-use Prim.Native.Nat.{ℕ, zero, suc, ◌+◌, ◌-◌, ◌*◌, ◌/◌, ◌%◌, ◌^◌, ◌<◌, ◌≤◌}
+use mathlib.Core.Logic.{inl, inr}
+use Prim.Native.Nat.{ℕ, zero, suc, ◌+◌, ◌*◌, ◌/◌, ◌%◌, ◌^◌, ◌<◌, ◌≤◌}
 use native.Mathlib.Omega.{arith}
 use native.Mathlib.Nat.{mod-lt, mod-eq_of_lt}
 use lib.Dec.{eqb, ltb}
@@ -13,23 +13,21 @@ use Rattle.steps.specs.Bits.{bit}
 use Rattle.qsm.specs.model.Event.{clock_limit}
 use Rattle.qsm.specs.declared.event.Event.{Event}
 use Rattle.qsm.specs.declared.event.Event.TheVariants.{Hold}
-use Rattle.trace.specs.Trace.{parsed, hold_kind, long_hold_kind}
-use Rattle.trace.specs.declared.Parsed.{Parsed}
-use Rattle.trace.specs.declared.Parsed.TheVariants.{Record}
+use Rattle.trace.specs.Trace.{hold_kind, long_hold_kind}
 use Rattle.tool_lines.specs.Schedule.{Act, acts, stopped, followed, Scheduled, next, scheduled_for, scheduled}
 use Rattle.tool_lines.proofs.Schedules.{unroll}
 use Rattle.tool_assemble.specs.Encode.{record_bytes}
-use Rattle.tool_assemble.specs.Sent.{frame, level, edge, bit_clocks, hold_kind_of, bit_hold}
+use Rattle.tool_assemble.specs.Sent.{level, edge, bit_clocks, hold_kind_of, bit_hold}
 use Rattle.tool_assemble.specs.declared.sent.Sent.{Sent}
 use Rattle.claims_assembling.specs.Laws.{Fits}
 use Rattle.claims_assembling.specs.Traces.{framed, held, clocks_of}
 use Rattle.claims_assembling.proofs.Records.{bytes_give_back}
-use Rattle.claims_senders.specs.Fair.{SentFrame, levels, levels_of, line}
+use Rattle.claims_senders.specs.Fair.{levels, levels_of, line}
 use Rattle.claims_senders.specs.Rates.{lasts_at, bits_at}
 use Rattle.claims_through.proofs.Levels.{act_levels, Good, hold_good}
 use Rattle.claims_through.proofs.Levels as through
 use Rattle.claims_through.proofs.Polls.{Quiet, cut_rests}
-use Rattle.claims_text.specs.Text.{bits_of_byte, byte_frame, text_frames}
+use Rattle.claims_text.specs.Text.{byte_frame, text_frames}
 
 -- Each bit's hold fits its record.
 pub record Sendable (s : Sent) : Type 0 where

@@ -1,8 +1,8 @@
 -- A text's frames are fair and its words are its bytes; so they come. Assumes nothing.
 use mathlib.Core.Path.{◌≡◌, refl, ap, ap₂, sym, subst, ◌∙◌}
-use mathlib.Core.Bool.{Bool, true, false, ◌&&◌}
+use mathlib.Core.Bool.{Bool, false, ◌&&◌}
 use mathlib.Core.List.{List, [], ◌∷◌}
-use Prim.Native.Nat.{ℕ, suc, ◌+◌, ◌*◌, ◌/◌, ◌%◌, ◌^◌, ◌<◌, ◌≤◌}
+use Prim.Native.Nat.{ℕ, ◌+◌, ◌*◌, ◌/◌, ◌%◌, ◌^◌, ◌<◌, ◌≤◌}
 use native.Mathlib.Omega.{arith}
 use native.Mathlib.Nat.{le-div_iff_mul-le, div-mul-le_self, add-mul, add-mul-div_right}
 use borrow.Author.Tests.{ne_eqb}
@@ -24,17 +24,17 @@ use Rattle.tool_assemble.specs.Sent.{edge, bit_clocks}
 use Rattle.tool_assemble.specs.declared.sent.Sent.{Sent}
 use Rattle.claims_assembling.specs.Traces.{held, clocks_of}
 use Rattle.claims_deadlines.proofs.Replaying.{in_time_holds}
-use Rattle.claims_senders.specs.Fair.{SentFrame, data_of, word_of, words_sent, FairFrames, FairFrame, line}
+use Rattle.claims_senders.specs.Fair.{SentFrame, data_of, word_of, words_sent, FairFrames, line}
 use Rattle.claims_senders.specs.Heard.{earliest}
 use Rattle.claims_senders.specs.Rates.{bits_at}
 use Rattle.claims_senders.specs.Undamaged.{RightParity}
 use Rattle.claims_senders.proofs.Grid.{rates}
-use Rattle.claims_through.specs.Through.{Ready, sample_of, bits_in, OnRxd, words_came}
+use Rattle.claims_through.specs.Through.{sample_of, bits_in, OnRxd, words_came}
 use Rattle.claims_through.proofs.Whole.{words_through, none_damaged}
 use Rattle.claims_through.proofs.Levels.{act_levels_holds}
-use Rattle.claims_through.proofs.Polls.{Kept, quiet_stays}
+use Rattle.claims_through.proofs.Polls.{quiet_stays}
 use Rattle.claims_through.proofs.Meeting.{begun}
-use Rattle.claims_text.specs.Text.{Bytes, bits_of_byte, byte_frame, text_frames, InReach, sender, text, Met, TextWords}
+use Rattle.claims_text.specs.Text.{Bytes, bits_of_byte, text_frames, InReach, sender, text, TextWords}
 use Rattle.claims_text.proofs.Held.{Sendable, Both, text_both}
 
 low_eight : (b : ℕ) → bits_of_byte b ≡ low_bits 8 b

@@ -1,7 +1,7 @@
 -- The lines of a text: cut at bytes whose low 7 bits are 0A, numbered from 0; one of more than 128 characters is dropped.
-use Rattle.std.specs.Prelude.{Bool, true, false, cond, not, List, [], ◌∷◌, ◌++◌, ◌≡◌, ℕ, suc, ◌%◌, ltb, length}
+use Rattle.std.specs.Prelude.{cond, List, [], ◌∷◌, ◌++◌, ◌≡◌, ℕ, suc, ◌%◌, ltb, length}
 use Rattle.tool_lines.specs.Gather.{Report, handed, dropped, most, too_long}
-use Rattle.claims_lines.specs.Happened.{Damage, Happening, frame_lost, word_came, status_read, word_delivered, was_reset}
+use Rattle.claims_lines.specs.Happened.{Happening, frame_lost, word_came, status_read, word_delivered, was_reset}
 use Rattle.claims_lines.specs.Segment.{ends, numbered, damaged}
 use Rattle.claims_lines.specs.Claims.{heard}
 use Rattle.claims_lines.specs.Witness.{recorded}

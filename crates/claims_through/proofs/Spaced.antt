@@ -7,10 +7,10 @@ use Prim.Native.Nat.{ℕ, suc, ◌+◌, ◌*◌, ◌≤◌, ◌<◌, min}
 use native.Mathlib.Omega.{arith}
 use lib.Dec.{leb}
 use borrow.Author.Tests.{leb-false}
-use Rattle.sci.specs.model.Control.{SCBR, RE}
+use Rattle.sci.specs.model.Control.{SCBR}
 use Rattle.sci.specs.model.Framer.{ends, frame_of, framed}
-use Rattle.sci.specs.claims.Line.{Op, sample}
-use Rattle.sci.specs.model.Serial.{active, due, clocked}
+use Rattle.sci.specs.claims.Line.{sample}
+use Rattle.sci.specs.model.Serial.{due, clocked}
 use Rattle.sci.specs.claims.History.{Step, reset, clock, reads, writesSccr0, writesSccr1, writesScdr, step, sampling, ops}
 use Rattle.sci.specs.declared.framer.Framer.{Framer}
 use Rattle.sci.specs.declared.serial.Sci.{Sci}

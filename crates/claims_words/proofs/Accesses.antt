@@ -5,12 +5,12 @@ use mathlib.Core.List.{List, [], ◌∷◌}
 use Prim.Native.Nat.{ℕ, ◌*◌, ◌/◌, ◌%◌}
 use lib.Dec.{eqb}
 use Rattle.steps.specs.Bits.{merge}
-use Rattle.sci.specs.model.Flags.{RDRF, RAF, receive_flags, transmit_flags}
+use Rattle.sci.specs.model.Flags.{RAF, receive_flags, transmit_flags}
 use Rattle.sci.specs.model.Status.{mark_seen}
 use Rattle.sci.specs.model.Control.{RE, sccr0_bits}
 use Rattle.sci.specs.claims.Line.{read_status}
 use Rattle.sci.specs.model.Serial.{sccr1_word, data_written, wrote_sccr0, stopped, with_sccr1, wrote_sccr1, sccr0_guarded, sccr1_guarded}
-use Rattle.sci.specs.claims.History.{Step, reset, reads, writesSccr0, writesSccr1, step, run}
+use Rattle.sci.specs.claims.History.{Step, reads, writesSccr0, writesSccr1, step, run}
 use Rattle.sci.specs.declared.status.Status.{Status}
 use Rattle.sci.specs.declared.serial.Sci.{Sci}
 use Rattle.sci.proofs.Flagged.{is_set, has_flag, set_fall, set_markSeen, fallSeen_clear}

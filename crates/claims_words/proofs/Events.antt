@@ -4,7 +4,7 @@ use mathlib.Core.Bool.{Bool, true, false, cond, not, ◌&&◌}
 use mathlib.Core.List.{List, [], ◌∷◌, ◌++◌}
 use mathlib.Core.Option.{Option, none, some}
 use Prim.Native.Nat.{ℕ, zero, suc}
-use Rattle.sci.specs.model.Flags.{RDRF, OR}
+use Rattle.sci.specs.model.Flags.{OR}
 use Rattle.sci.specs.model.Status.{has, raise, raise_if}
 use Rattle.sci.specs.model.Receiver.{outcome}
 use Rattle.sci.specs.claims.ReceiverClauses.{rises}
