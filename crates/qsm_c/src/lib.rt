@@ -62,6 +62,7 @@ pub extern "C" fn qsm_new() -> Module
 }
 
 // Ruled out: a module that keeps a register; no answer to a reset.
+#[tactic(auto, unfolding(qsm::specs::model::Event::step, qsm::specs::model::Event::does))]
 #[unsafe(no_mangle)]
 pub extern "C" fn qsm_reset(m: &mut Module) -> Answer
     ensures { Applied m.old Reset m.new result }
@@ -73,6 +74,7 @@ pub extern "C" fn qsm_reset(m: &mut Module) -> Answer
 }
 
 // Ruled out: the levels of the hold before; only the first clock played; a count that passes 2^64 - 1.
+#[tactic(auto, unfolding(qsm::specs::model::Event::step, qsm::specs::model::Event::does))]
 #[unsafe(no_mangle)]
 pub extern "C" fn qsm_hold(m: &mut Module, pins: u8, rxd: bool, clocks: u32) -> Answer
     ensures { Applied m.old (Hold pins rxd clocks) m.new result }
@@ -84,6 +86,7 @@ pub extern "C" fn qsm_hold(m: &mut Module, pins: u8, rxd: bool, clocks: u32) -> 
 }
 
 // Ruled out: every read answered 0; a blocked user's read with a side effect.
+#[tactic(auto, unfolding(qsm::specs::model::Event::step, qsm::specs::model::Event::does))]
 #[unsafe(no_mangle)]
 pub extern "C" fn qsm_read(m: &mut Module, supervisor: bool, width: u8, offset: u16) -> Answer
     ensures { Applied m.old (read_event supervisor width offset) m.new result }
@@ -95,6 +98,7 @@ pub extern "C" fn qsm_read(m: &mut Module, supervisor: bool, width: u8, offset: 
 }
 
 // Ruled out: every write refused; a write that is answered and not stored.
+#[tactic(auto, unfolding(qsm::specs::model::Event::step, qsm::specs::model::Event::does))]
 #[unsafe(no_mangle)]
 pub extern "C" fn qsm_write(
     m: &mut Module,
