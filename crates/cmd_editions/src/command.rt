@@ -2,6 +2,9 @@
 ghost use Rattle.std.specs.Prelude.{◌≡◌};
 ghost use Rattle.cmd_editions.specs.Words.{hex_value, of_digits, register_of};
 
+use files::command::argument;
+use files::system::System;
+use files::words::same;
 use shell::arguments::Seen;
 use text::number::{Number, parse_number};
 use tool_editions::records::Edition;
@@ -95,29 +98,29 @@ fn number_of(word: &[u8]) -> Word {
 }
 
 // The register, and the number, that the argument at a place is.
-fn register(place: usize) -> Word {
+fn register<R: System>(rt: &R, place: usize) -> Word {
     let mut buf = io::buffer();
-    let n = os::arg(place, &mut buf);
+    let n = argument(rt, place, &mut buf);
     register_of(&buf[..n])
 }
 
-fn number(place: usize) -> Word {
+fn number<R: System>(rt: &R, place: usize) -> Word {
     let mut buf = io::buffer();
-    let n = os::arg(place, &mut buf);
+    let n = argument(rt, place, &mut buf);
     number_of(&buf[..n])
 }
 
-fn edition(n: u16, places: [usize; 8]) -> Verb {
-    let Word::Is(sccr0) = register(places[3]) else {
+fn edition<R: System>(rt: &R, n: u16, places: [usize; 8]) -> Verb {
+    let Word::Is(sccr0) = register(rt, places[3]) else {
         return Verb::Unknown;
     };
-    let Word::Is(sccr1) = register(places[4]) else {
+    let Word::Is(sccr1) = register(rt, places[4]) else {
         return Verb::Unknown;
     };
-    let Word::Is(spcr0) = register(places[5]) else {
+    let Word::Is(spcr0) = register(rt, places[5]) else {
         return Verb::Unknown;
     };
-    let Word::Is(spcr1) = register(places[6]) else {
+    let Word::Is(spcr1) = register(rt, places[6]) else {
         return Verb::Unknown;
     };
     Verb::Add(Edition {
@@ -131,54 +134,54 @@ fn edition(n: u16, places: [usize; 8]) -> Verb {
 
 // The verbs of two words, of three and of seven.
 fn short(name: &[u8]) -> Verb {
-    if check::same(name, b"newest") {
+    if same(name, b"newest") {
         return Verb::Newest;
     }
-    if check::same(name, b"list") {
+    if same(name, b"list") {
         return Verb::List;
     }
     Verb::Unknown
 }
 
 fn numbered(name: &[u8], n: u16) -> Verb {
-    if check::same(name, b"withdraw") {
+    if same(name, b"withdraw") {
         return Verb::Withdraw(n);
     }
-    if check::same(name, b"get") {
+    if same(name, b"get") {
         return Verb::Get(n);
     }
     Verb::Unknown
 }
 
-fn long(name: &[u8], n: u16, places: [usize; 8]) -> Verb {
-    if check::same(name, b"add") {
-        return edition(n, places);
+fn long<R: System>(rt: &R, name: &[u8], n: u16, places: [usize; 8]) -> Verb {
+    if same(name, b"add") {
+        return edition(rt, n, places);
     }
     Verb::Unknown
 }
 
-fn by_words(name: &[u8], words: usize, places: [usize; 8]) -> Verb {
+fn by_words<R: System>(rt: &R, name: &[u8], words: usize, places: [usize; 8]) -> Verb {
     if words == 2 {
         return short(name);
     }
-    let Word::Is(n) = number(places[2]) else {
+    let Word::Is(n) = number(rt, places[2]) else {
         return Verb::Unknown;
     };
     if words == 3 {
         return numbered(name, n);
     }
     if words == 7 {
-        return long(name, n, places);
+        return long(rt, name, n, places);
     }
     Verb::Unknown
 }
 
 // What the command asks for; Unknown where it is not understood.
-pub fn asked(seen: Seen) -> Verb {
+pub fn asked<R: System>(rt: &R, seen: Seen) -> Verb {
     let places = seen.places;
     let mut buf = io::buffer();
-    let n = os::arg(places[1], &mut buf);
-    by_words(&buf[..n], seen.words, places)
+    let n = argument(rt, places[1], &mut buf);
+    by_words(rt, &buf[..n], seen.words, places)
 }
 
 pub fn adds(v: Verb) -> bool {

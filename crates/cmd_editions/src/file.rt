@@ -2,8 +2,11 @@
 ghost use Rattle.io.specs.Counts.{IsPrefixLen};
 
 use files::message::say;
+use files::origin::Origin;
 use files::pieces::fill;
+use files::system::System;
 use shell::message::fail;
+use std::io::ErrorKind;
 
 #[derive(Clone, Copy)]
 pub struct Loaded {
@@ -26,17 +29,17 @@ fn not_read() -> Loaded {
 }
 
 // A regular file comes in one piece; what does not is refused, so that nothing is taken for a shorter file.
-fn whole(fd: i32, path: &[u8], buf: &mut [u8]) -> Loaded {
-    let f = fill(fd, buf, 0, false);
+fn whole<R: System>(rt: &R, from: &Origin, path: &[u8], buf: &mut [u8]) -> Loaded {
+    let f = fill(rt, from, buf, 0, false);
     if f.failed {
-        fail(b"editions", path);
+        fail(b"editions", path, from.error());
         return not_read();
     }
     let have = f.total;
     if have < buf.len() {
-        let g = fill(fd, buf, have, f.ended);
+        let g = fill(rt, from, buf, have, f.ended);
         if g.failed {
-            fail(b"editions", path);
+            fail(b"editions", path, from.error());
             return not_read();
         }
         if g.total != have {
@@ -51,23 +54,22 @@ fn whole(fd: i32, path: &[u8], buf: &mut [u8]) -> Loaded {
 }
 
 // The file at a path, at the start of a buffer. One that is not there is empty for an edition to add. What can't be read is said.
-pub fn load(path: &[u8], adds: bool, buf: &mut [u8]) -> Loaded {
+pub fn load<R: System>(rt: &R, path: &[u8], adds: bool, buf: &mut [u8]) -> Loaded {
     if path.len() == 0 {
         say(b"editions", b"a file's name is empty or too long\n");
         return not_read();
     }
-    let fd = os::open_read(path);
-    if fd < 0 {
-        if adds & (os::errno() == libc::ENOENT) {
-            return Loaded {
-                read: true,
-                used: 0,
-            };
+    match Origin::open(rt, path) {
+        Ok(from) => whole(rt, &from, path, buf),
+        Err(e) => {
+            if adds & (e.kind() == ErrorKind::NotFound) {
+                return Loaded {
+                    read: true,
+                    used: 0,
+                };
+            }
+            fail(b"editions", path, e);
+            not_read()
         }
-        fail(b"editions", path);
-        return not_read();
     }
-    let l = whole(fd, path, buf);
-    libc::close(fd);
-    l
 }

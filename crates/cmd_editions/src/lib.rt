@@ -4,7 +4,9 @@
 use command::Verb;
 use console::output::{Out, flush, put, put_line};
 use console::status::Status;
+use files::command::argument;
 use files::message::say;
+use files::system::{Sink, System};
 use shell::arguments::Seen;
 use shell::message::fail;
 use text::line::Line;
@@ -29,121 +31,139 @@ usage: editions FILE add NUMBER SCCR0 SCCR1 SPCR0 SPCR1
 }
 
 // Once all was given to standard output.
-fn ended(out: Out, lines: &[u8], status: Status) -> Status {
-    let now = flush(out, lines);
+fn ended(to: &Sink, out: Out, lines: &[u8], status: Status) -> Status {
+    let now = flush(to, out, lines);
     if now.failed {
-        fail(b"editions", b"standard output");
+        fail(b"editions", b"standard output", to.error());
     }
     console::status::worse(now.failed, status)
 }
 
-fn print(line: Line, status: Status) -> Status {
+fn print(to: &Sink, line: Line, status: Status) -> Status {
     let mut lines = io::buffer();
-    let out = put_line(Out::standard(), &mut lines, line);
-    ended(out, &lines, status)
+    let out = put_line(to, Out::standard(to), &mut lines, line);
+    ended(to, out, &lines, status)
 }
 
 // Whether the file at a path is replaced by one with these bytes. Where it is not, that is said.
-fn replaced(path: &[u8], bytes: &[u8]) -> bool {
+fn replaced<R: System>(rt: &R, path: &[u8], bytes: &[u8]) -> bool {
     let mut place = io::buffer();
     let mut beside = io::buffer();
     let mut waiting = io::buffer();
-    let t = shell::target::begin(b"editions", path, &mut place, &mut beside);
-    if t.fd < 0 {
+    let t = shell::target::begin(rt, b"editions", path, &mut place, &mut beside);
+    let Some(to) = &t.sink else {
         return false;
-    }
-    let given = put(Out::to(t.fd, false), &mut waiting, bytes);
-    let out = flush(given, &waiting);
+    };
+    let given = put(to, Out::to(false), &mut waiting, bytes);
+    let out = flush(to, given, &waiting);
     if out.failed {
-        fail(b"editions", path);
+        fail(b"editions", path, to.error());
     }
-    shell::target::finish(b"editions", t, &place, &beside, !out.failed)
+    shell::target::finish(rt, b"editions", t, &place, &beside, !out.failed)
 }
 
 // What a change answered: the file is replaced if it was let.
-fn changed(path: &[u8], buf: &[u8], c: Changed, adding: bool, number: u16) -> Status {
+fn changed<R: System>(
+    rt: &R,
+    to: &Sink,
+    path: &[u8],
+    buf: &[u8],
+    c: Changed,
+    adding: bool,
+    number: u16,
+) -> Status {
     if c.refusal != 0 {
-        return print(show::refused_line(c.refusal, adding), Status::Found);
+        return print(to, show::refused_line(c.refusal, adding), Status::Found);
     }
     let used = file::within(c.used, buf);
-    if replaced(path, &buf[..used]) {
-        return print(show::done_line(adding, number), Status::Done);
+    if replaced(rt, path, &buf[..used]) {
+        return print(to, show::done_line(adding, number), Status::Done);
     }
     Status::Failed
 }
 
-fn print_writes(bytes: [u8; 32]) -> Status {
+fn print_writes(to: &Sink, bytes: [u8; 32]) -> Status {
     let mut lines = io::buffer();
-    let out = put(Out::standard(), &mut lines, &bytes);
-    ended(out, &lines, Status::Done)
+    let out = put(to, Out::standard(to), &mut lines, &bytes);
+    ended(to, out, &lines, Status::Done)
 }
 
 // The edition asked for: a line, or its four writes as a trace.
-fn given(g: Given, traces: bool) -> Status {
+fn given(to: &Sink, g: Given, traces: bool) -> Status {
     if g.refusal != 0 {
-        return print(show::refused_line(g.refusal, false), Status::Found);
+        return print(to, show::refused_line(g.refusal, false), Status::Found);
     }
     let e = g.edition;
     if traces {
-        return print_writes(show::writes(e));
+        return print_writes(to, show::writes(e));
     }
-    print(show::edition_line(e, false), Status::Done)
+    print(to, show::edition_line(e, false), Status::Done)
 }
 
-fn list(buf: &[u8]) -> Status {
+fn list(to: &Sink, buf: &[u8]) -> Status {
     let g = tool_editions::newest(buf, buf.len());
     if (g.refusal == 0) | (g.refusal == 8) {
         let mut lines = io::buffer();
-        let out = show::list(Out::standard(), &mut lines, buf);
-        return ended(out, &lines, Status::Done);
+        let out = show::list(to, Out::standard(to), &mut lines, buf);
+        return ended(to, out, &lines, Status::Done);
     }
-    print(show::refused_line(g.refusal, false), Status::Found)
+    print(to, show::refused_line(g.refusal, false), Status::Found)
 }
 
-fn list_first(buf: &[u8], used: usize) -> Status {
+fn list_first(to: &Sink, buf: &[u8], used: usize) -> Status {
     let n = file::within(used, buf);
-    list(&buf[..n])
+    list(to, &buf[..n])
 }
 
-fn done(verb: Verb, traces: bool, path: &[u8], buf: &mut [u8], used: usize) -> Status {
+fn done<R: System>(
+    rt: &R,
+    verb: Verb,
+    traces: bool,
+    path: &[u8],
+    buf: &mut [u8],
+    used: usize,
+) -> Status {
+    let output = Sink::output(rt);
+    let to = &output;
     match verb {
         Verb::Add(e) => {
             let c = tool_editions::add(buf, used, e);
-            changed(path, buf, c, true, e.number)
+            changed(rt, to, path, buf, c, true, e.number)
         }
         Verb::Withdraw(n) => {
             let c = tool_editions::withdraw(buf, used, n);
-            changed(path, buf, c, false, n)
+            changed(rt, to, path, buf, c, false, n)
         }
-        Verb::Get(n) => given(tool_editions::get(buf, used, n), traces),
-        Verb::Newest => given(tool_editions::newest(buf, used), traces),
-        Verb::List => list_first(buf, used),
+        Verb::Get(n) => given(to, tool_editions::get(buf, used, n), traces),
+        Verb::Newest => given(to, tool_editions::newest(buf, used), traces),
+        Verb::List => list_first(to, buf, used),
         Verb::Unknown => usage(),
     }
 }
 
-fn asked(verb: Verb, traces: bool, place: usize) -> Status {
+fn asked<R: System>(rt: &R, verb: Verb, traces: bool, place: usize) -> Status {
     let mut path = io::buffer();
-    let n = os::arg(place, &mut path);
+    let n = argument(rt, place, &mut path);
     let mut buf = [0u8; 1024];
-    let l = file::load(&path[..n], command::adds(verb), &mut buf);
+    let l = file::load(rt, &path[..n], command::adds(verb), &mut buf);
     if !l.read {
         return Status::Failed;
     }
-    done(verb, traces, &path[..n], &mut buf, l.used)
+    done(rt, verb, traces, &path[..n], &mut buf, l.used)
 }
 
-fn by_verb(seen: Seen) -> Status {
-    let verb = command::asked(seen);
+fn by_verb<R: System>(rt: &R, seen: Seen) -> Status {
+    let verb = command::asked(rt, seen);
     if let Verb::Unknown = verb {
         return usage();
     }
-    asked(verb, seen.flags[0] != 0, seen.places[0])
+    asked(rt, verb, seen.flags[0] != 0, seen.places[0])
 }
 
 // The command, whose words begin at an argument.
-pub fn run(from: usize) -> Status {
+pub fn run<R: System>(rt: &R, from: usize) -> Status {
     let g = shell::line::read_line(
+        rt,
         from,
         b"editions",
         b"--trace ",
@@ -177,5 +197,5 @@ Exit status: 0 done; 1 refused; 2 not understood, or the file can't be read or w
     if !g.go {
         return console::status::worse(g.wrong, Status::Done);
     }
-    by_verb(g.seen)
+    by_verb(rt, g.seen)
 }

@@ -4,6 +4,7 @@ ghost use Rattle.cmd_editions.specs.Writes.{writes_of};
 
 use crate::file::within;
 use console::output::{Out, put_line};
+use files::system::Sink;
 use text::line::Line;
 use tool_editions::records::{Edition, Parsed, Record};
 
@@ -80,11 +81,11 @@ pub fn writes(e: Edition) -> [u8; 32]
     ]
 }
 
-fn show(out: Out, lines: &mut [u8], file: &[u8], r: Record) -> Out {
+fn show(to: &Sink, out: Out, lines: &mut [u8], file: &[u8], r: Record) -> Out {
     match r {
         Record::Added(e) => {
             let g = tool_editions::get(file, file.len(), e.number);
-            put_line(out, lines, edition_line(e, g.refusal != 0))
+            put_line(to, out, lines, edition_line(e, g.refusal != 0))
         }
         Record::Withdrawn(_) => out,
     }
@@ -99,7 +100,7 @@ fn after(at: usize, n: usize) -> usize {
 }
 
 // A line for each edition that was added: a file has up to 64 records.
-pub fn list(out: Out, lines: &mut [u8], buf: &[u8]) -> Out {
+pub fn list(to: &Sink, out: Out, lines: &mut [u8], buf: &[u8]) -> Out {
     let mut given = out;
     let mut at: usize = 0;
     let mut turns: u8 = 0;
@@ -109,7 +110,7 @@ pub fn list(out: Out, lines: &mut [u8], buf: &[u8]) -> Out {
         let Parsed::Whole(r) = p else {
             return given;
         };
-        given = show(given, lines, buf, r);
+        given = show(to, given, lines, buf, r);
         at = after(from, tool_editions::records::size(r));
         turns += 1;
     }

@@ -7,9 +7,9 @@ use console::message::say_line;
 use console::output::{Out, flush};
 use console::status::Status;
 use files::message::say;
+use files::system::{Sink, System, failure};
 use read::Reading;
 use shell::message::fail;
-use shell::target::Target;
 use text::line::Line;
 use tool_plan::Planned;
 use wanted::Wanted;
@@ -76,77 +76,77 @@ fn refuse(w: Wanted, r: Reading) -> Status {
 }
 
 // The plan on an output, as text or as a trace.
-fn put(w: Wanted, r: Reading, planned: Planned, fd: i32) -> Out {
+fn put(w: Wanted, r: Reading, planned: Planned, to: &Sink) -> Out {
     let mut buf = io::large_buffer();
     let plan = planned.plan;
     let points = r.points;
-    let out = Out::to(fd, false);
+    let out = Out::to(false);
     if w.trace {
-        let given = show::trace(out, &mut buf, plan);
-        return flush(given, &buf);
+        let given = show::trace(to, out, &mut buf, plan);
+        return flush(to, given, &buf);
     }
-    let given = show::show(out, &mut buf, points, plan, w.window);
-    flush(given, &buf)
+    let given = show::show(to, out, &mut buf, points, plan, w.window);
+    flush(to, given, &buf)
 }
 
 // Into what a path names.
-fn write_to(w: Wanted, r: Reading, planned: Planned, path: &[u8]) -> Status {
+fn write_to<R: System>(rt: &R, w: Wanted, r: Reading, planned: Planned, path: &[u8]) -> Status {
     let mut place = io::buffer();
     let mut beside = io::buffer();
-    let t = shell::target::begin(b"plan", path, &mut place, &mut beside);
-    if t.fd < 0 {
+    let t = shell::target::begin(rt, b"plan", path, &mut place, &mut beside);
+    let Some(to) = &t.sink else {
         return Status::Failed;
-    }
-    let out = put(w, r, planned, t.fd);
+    };
+    let out = put(w, r, planned, to);
     if out.failed {
-        fail(b"plan", path);
+        fail(b"plan", path, to.error());
     }
     let whole = !out.failed;
     console::status::worse(
-        !shell::target::finish(b"plan", t, &place, &beside, whole),
+        !shell::target::finish(rt, b"plan", t, &place, &beside, whole),
         Status::Done,
     )
 }
 
-fn write_at(w: Wanted, r: Reading, planned: Planned, output: usize) -> Status {
+fn write_at<R: System>(rt: &R, w: Wanted, r: Reading, planned: Planned, output: usize) -> Status {
     if output == 0 {
-        let out = put(w, r, planned, libc::STDOUT_FILENO);
+        let to = Sink::output(rt);
+        let out = put(w, r, planned, &to);
         if out.failed {
-            fail(b"plan", b"standard output");
+            fail(b"plan", b"standard output", to.error());
         }
         return console::status::worse(out.failed, Status::Done);
     }
     let mut path = io::buffer();
-    let n = os::arg(output, &mut path);
-    if os::errno() != 0 {
-        fail(b"plan", b"a file's name");
-        return Status::Failed;
+    match rt.arg(output, &mut path) {
+        Ok(n) => write_to(rt, w, r, planned, &path[..n]),
+        Err(e) => {
+            fail(b"plan", b"a file's name", failure(e));
+            Status::Failed
+        }
     }
-    write_to(w, r, planned, &path[..n])
 }
 
-fn answer(w: Wanted, r: Reading, output: usize) -> Status {
+fn answer<R: System>(rt: &R, w: Wanted, r: Reading, output: usize) -> Status {
     let planned = changed(w, r, w.window);
     if planned.refusal != 0 {
         return refuse(w, r);
     }
-    write_at(w, r, planned, output)
+    write_at(rt, w, r, planned, output)
 }
 
-fn asked(w: Wanted, input: usize, output: usize) -> Status {
+fn asked<R: System>(rt: &R, w: Wanted, input: usize, output: usize) -> Status {
     let mut name = io::buffer();
-    let i = shell::input::open_at(b"plan", input, &mut name);
-    let fd = i.fd;
+    let i = shell::input::open_at(rt, b"plan", input, &mut name);
     let n = i.name;
-    if fd < 0 {
+    let Some(from) = i.from else {
         return Status::Failed;
-    }
-    let t = points::read(fd);
+    };
+    let t = points::read(rt, &from);
     if t.failed {
-        fail(b"plan", &name[..n]);
+        fail(b"plan", &name[..n], from.error());
         return Status::Failed;
     }
-    libc::close(fd);
     if !t.ended {
         say(b"plan", b"input too long\n");
         return Status::Failed;
@@ -156,12 +156,13 @@ fn asked(w: Wanted, input: usize, output: usize) -> Status {
     if r.fault != 0 {
         return say_fault(r);
     }
-    answer(w, r, output)
+    answer(rt, w, r, output)
 }
 
 // The command, whose words begin at an argument.
-pub fn run(from: usize) -> Status {
+pub fn run<R: System>(rt: &R, from: usize) -> Status {
     let g = shell::line::read_line(
+        rt,
         from,
         b"plan",
         b"--cpol --cpha --trace ",
@@ -189,9 +190,9 @@ Exit status: 0 there is a plan; 1 there is none; 2 the set-points can't be read 
         return console::status::worse(g.wrong, Status::Done);
     }
     let seen = g.seen;
-    let w = wanted::asked_of(seen);
+    let w = wanted::asked_of(rt, seen);
     if !w.good {
         return Status::Failed;
     }
-    asked(w, seen.places[1], seen.values[2])
+    asked(rt, w, seen.places[1], seen.values[2])
 }

@@ -1,6 +1,8 @@
 // The set-points read to the end of their text.
 use crate::read::Reading;
+use files::origin::Origin;
 use files::pieces::fill;
+use files::system::System;
 
 // The reading, whether the text has ended, and whether it could not be read.
 #[derive(Clone, Copy)]
@@ -12,17 +14,15 @@ pub struct Points {
 
 fn taken(r: Reading, part: &[u8]) -> Reading {
     let mut now = r;
-    let mut i = 0;
-    while i < part.len() {
-        now = now.step(part[i]);
-        i += 1;
+    for b in part {
+        now = now.step(*b);
     }
     now
 }
 
 // A piece more of the text.
-fn piece(r: Reading, fd: i32, buf: &mut [u8]) -> Points {
-    let f = fill(fd, buf, 0, false);
+fn piece<R: System>(rt: &R, r: Reading, from: &Origin, buf: &mut [u8]) -> Points {
+    let f = fill(rt, from, buf, 0, false);
     let n = f.total;
     if f.ended {
         return Points {
@@ -39,7 +39,7 @@ fn piece(r: Reading, fd: i32, buf: &mut [u8]) -> Points {
     }
 }
 
-pub fn read(fd: i32) -> Points {
+pub fn read<R: System>(rt: &R, from: &Origin) -> Points {
     let mut buf = io::large_buffer();
     let mut now = Points {
         reading: Reading::new(),
@@ -49,7 +49,7 @@ pub fn read(fd: i32) -> Points {
     let mut turns: u32 = 0;
     while turns < 65536 {
         let r = now.reading;
-        now = piece(r, fd, &mut buf);
+        now = piece(rt, r, from, &mut buf);
         if now.ended {
             return now;
         }

@@ -2,6 +2,7 @@
 ghost use Rattle.std.specs.Prelude.{◌≤◌};
 
 use console::output::{Out, put, put_line};
+use files::system::Sink;
 use text::line::Line;
 use tool_plan::load::HostWrite;
 use tool_plan::{Plan, SetPoints};
@@ -65,7 +66,7 @@ fn few(count: u8) -> usize
 }
 
 // An entry of the plan, by its number below 16.
-fn put_entry(out: Out, buf: &mut [u8], points: SetPoints, plan: Plan, k: usize) -> Out {
+fn put_entry(to: &Sink, out: Out, buf: &mut [u8], points: SetPoints, plan: Plan, k: usize) -> Out {
     let i = k % 16;
     let at = (plan.first as u64 + i as u64) % 16;
     let line = entry_line(
@@ -75,32 +76,39 @@ fn put_entry(out: Out, buf: &mut [u8], points: SetPoints, plan: Plan, k: usize) 
         plan.words[i],
         plan.commands[i],
     );
-    put_line(out, buf, line)
+    put_line(to, out, buf, line)
 }
 
-fn put_entries(out: Out, buf: &mut [u8], points: SetPoints, plan: Plan) -> Out {
+fn put_entries(to: &Sink, out: Out, buf: &mut [u8], points: SetPoints, plan: Plan) -> Out {
     let n = few(plan.count);
     let mut given = out;
     let mut k: usize = 0;
     while k < n {
-        given = put_entry(given, buf, points, plan, k);
+        given = put_entry(to, given, buf, points, plan, k);
         k += 1;
     }
     given
 }
 
 // The plan of these set-points, entry by entry.
-pub fn show(out: Out, buf: &mut [u8], points: SetPoints, plan: Plan, window: u64) -> Out {
-    let head = put_line(out, buf, head_line(plan, window));
-    let given = put_line(head, buf, register_line(plan));
-    put_entries(given, buf, points, plan)
+pub fn show(
+    to: &Sink,
+    out: Out,
+    buf: &mut [u8],
+    points: SetPoints,
+    plan: Plan,
+    window: u64,
+) -> Out {
+    let head = put_line(to, out, buf, head_line(plan, window));
+    let given = put_line(to, head, buf, register_line(plan));
+    put_entries(to, given, buf, points, plan)
 }
 
 fn low(n: u32) -> u8 {
     (n % 256) as u8
 }
 
-fn put_write(out: Out, buf: &mut [u8], w: HostWrite) -> Out {
+fn put_write(to: &Sink, out: Out, buf: &mut [u8], w: HostWrite) -> Out {
     let offset = w.offset as u32;
     let record = [
         4u8,
@@ -112,49 +120,49 @@ fn put_write(out: Out, buf: &mut [u8], w: HostWrite) -> Out {
         low(w.value / 256),
         low(w.value),
     ];
-    put(out, buf, &record)
+    put(to, out, buf, &record)
 }
 
 // Pins at 0, RXD at one.
-fn put_hold(out: Out, buf: &mut [u8], clocks: u32) -> Out {
+fn put_hold(to: &Sink, out: Out, buf: &mut [u8], clocks: u32) -> Out {
     let record = [2u8, 0, 1, low(clocks / 256), low(clocks)];
-    put(out, buf, &record)
+    put(to, out, buf, &record)
 }
 
-fn run_for(out: Out, buf: &mut [u8], clocks: u64) -> Out {
+fn run_for(to: &Sink, out: Out, buf: &mut [u8], clocks: u64) -> Out {
     let mut given = out;
     let mut left = clocks;
     while left > 65535 {
-        given = put_hold(given, buf, 65535);
+        given = put_hold(to, given, buf, 65535);
         left -= 65535;
     }
-    put_hold(given, buf, (left % 65536) as u32)
+    put_hold(to, given, buf, (left % 65536) as u32)
 }
 
 // The writes that load a plan.
-fn put_load(out: Out, buf: &mut [u8], plan: Plan) -> Out {
+fn put_load(to: &Sink, out: Out, buf: &mut [u8], plan: Plan) -> Out {
     let n = tool_plan::load::writes(plan);
     let mut given = out;
     let mut i: u16 = 0;
     while i < n {
         let w = tool_plan::load::write(plan, i);
-        given = put_write(given, buf, w);
+        given = put_write(to, given, buf, w);
         i += 1;
     }
     given
 }
 
 // The trace that resets the module, makes MOSI, SCK and the PCS assigned outputs, loads the plan and runs it.
-pub fn trace(out: Out, buf: &mut [u8], plan: Plan) -> Out {
-    let reset = put(out, buf, b"\x01");
+pub fn trace(to: &Sink, out: Out, buf: &mut [u8], plan: Plan) -> Out {
+    let reset = put(to, out, buf, b"\x01");
     let pins = HostWrite {
         value: 0x7A7E,
         offset: 0x16,
         width: 2,
     };
-    let outputs = put_write(reset, buf, pins);
-    let loaded = put_load(outputs, buf, plan);
-    run_for(loaded, buf, plan.clock)
+    let outputs = put_write(to, reset, buf, pins);
+    let loaded = put_load(to, outputs, buf, plan);
+    run_for(to, loaded, buf, plan.clock)
 }
 
 // A line with what is wrong with a line of the set-points.

@@ -1,4 +1,6 @@
 // What is wanted, from the words of the command: a window, a file, and what a converter asks.
+use files::command::argument;
+use files::system::System;
 use shell::arguments::Seen;
 use shell::message::say_of;
 use text::number::{Number, parse_number};
@@ -33,12 +35,12 @@ fn within(word: &[u8], low: u64, high: u64) -> Number {
 }
 
 // The number that the argument at a place is; `other` where there is no such argument. What is no such number is said.
-fn number(place: usize, low: u64, high: u64, other: u64) -> Number {
+fn number<R: System>(rt: &R, place: usize, low: u64, high: u64, other: u64) -> Number {
     if place == 0 {
         return Number::Is(other);
     }
     let mut word = io::buffer();
-    let n = os::arg(place, &mut word);
+    let n = argument(rt, place, &mut word);
     let found = within(&word[..n], low, high);
     if let Number::NoNumber = found {
         say_of(b"plan", b"not understood: ", &word[..n]);
@@ -58,17 +60,17 @@ fn not_good() -> Wanted {
     }
 }
 
-pub fn asked_of(seen: Seen) -> Wanted {
+pub fn asked_of<R: System>(rt: &R, seen: Seen) -> Wanted {
     let flags = seen.flags;
     let values = seen.values;
     let places = seen.places;
-    let Number::Is(window) = number(places[0], 0, u64::MAX, 0) else {
+    let Number::Is(window) = number(rt, places[0], 0, u64::MAX, 0) else {
         return not_good();
     };
-    let Number::Is(spbr) = number(values[0], 2, 255, 2) else {
+    let Number::Is(spbr) = number(rt, values[0], 2, 255, 2) else {
         return not_good();
     };
-    let Number::Is(dsckl) = number(values[1], 1, 127, 1) else {
+    let Number::Is(dsckl) = number(rt, values[1], 1, 127, 1) else {
         return not_good();
     };
     Wanted {

@@ -1,6 +1,6 @@
 // Keeps register settings by edition in a file: the command `editions` of a program.
 #![tactic(auto)]
 
-fn main() {
-    cmd_editions::run(1);
+fn main(rt: HostRuntime) {
+    cmd_editions::run(&rt, 1);
 }

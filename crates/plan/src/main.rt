@@ -1,6 +1,6 @@
 // Plans the queue: the command `plan` of a program.
 #![tactic(auto)]
 
-fn main() {
-    cmd_plan::run(1);
+fn main(rt: HostRuntime) {
+    cmd_plan::run(&rt, 1);
 }

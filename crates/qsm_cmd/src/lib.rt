@@ -1,15 +1,17 @@
-// The commands behind one name: `qsm show FILE`, or `qsm-show FILE` by a link. A program of Rattle has no exit status; a function that C calls has.
+// The commands behind one name: `qsm show FILE`, or `qsm-show FILE` by a link, each with its exit status.
 #![tactic(auto)]
 
 use console::status::{Status, number};
-use libc::{STDERR_FILENO, STDOUT_FILENO};
+use files::command::argument;
+use files::system::{Sink, System};
+use files::words::same;
 use shell::message::say_of;
+use std::env::FillError;
 
 mod named;
 
-fn usage(fd: i32) -> bool {
-    io::write_all(
-        fd,
+fn usage(to: &Sink) -> bool {
+    to.write_all(
         b"\
 usage: qsm COMMAND [ARGUMENTS]
        qsm COMMAND --help
@@ -18,9 +20,8 @@ usage: qsm COMMAND [ARGUMENTS]
     )
 }
 
-fn commands(fd: i32) -> bool {
-    io::write_all(
-        fd,
+fn commands(to: &Sink) -> bool {
+    to.write_all(
         b"
 Commands:
   replay    play a trace and write its log
@@ -38,80 +39,82 @@ Exit status: 0 done and nothing found, 1 done and something found, 2 could not b
     )
 }
 
-fn help() -> Status {
-    if usage(STDOUT_FILENO) {
-        if commands(STDOUT_FILENO) {
+fn help<R: System>(rt: &R) -> Status {
+    let output = Sink::output(rt);
+    if usage(&output) {
+        if commands(&output) {
             return Status::Done;
         }
     }
-    files::message::fail(b"qsm", b"standard output");
+    files::message::fail(b"qsm", b"standard output", output.error());
     Status::Failed
 }
 
-fn version() -> Status {
-    console::status::worse(files::version::print_version(b"qsm"), Status::Done)
+fn version<R: System>(rt: &R) -> Status {
+    console::status::worse(files::version::print_version(rt, b"qsm"), Status::Done)
 }
 
-fn unknown(name: &[u8]) -> Status {
+fn unknown<R: System>(rt: &R, name: &[u8]) -> Status {
     say_of(b"qsm", b"unknown command ", name);
-    usage(STDERR_FILENO);
+    usage(&Sink::error_output(rt));
     Status::Failed
 }
 
 // What qsm says of itself.
-fn own(name: &[u8]) -> Status {
+fn own<R: System>(rt: &R, name: &[u8]) -> Status {
     if named::is_help(name) {
-        return help();
+        return help(rt);
     }
     if named::is_version(name) {
-        return version();
+        return version(rt);
     }
-    unknown(name)
+    unknown(rt, name)
 }
 
 // The command of a name, whose words begin at an argument.
-fn start(name: &[u8], from: usize) -> Status {
-    let ran = named::run(name, from);
+fn start<R: System>(rt: &R, name: &[u8], from: usize) -> Status {
+    let ran = named::run(rt, name, from);
     if ran.known {
         return ran.status;
     }
-    own(name)
+    own(rt, name)
 }
 
-// The command that argument 1 names.
-fn by_word() -> Status {
+// The command that argument 1 names; one that is too long is none that is known.
+fn by_word<R: System>(rt: &R) -> Status {
     let mut word = io::buffer();
-    let n = os::arg(1, &mut word);
-    if os::errno() == libc::EINVAL {
-        files::message::say(b"qsm", b"too few arguments\n");
-        usage(STDERR_FILENO);
-        return Status::Failed;
+    match rt.arg(1, &mut word) {
+        Ok(n) => start(rt, &word[..n], 2),
+        Err(FillError::TooLong) => start(rt, b"", 2),
+        Err(FillError::NotPresent) => {
+            files::message::say(b"qsm", b"too few arguments\n");
+            usage(&Sink::error_output(rt));
+            Status::Failed
+        }
     }
-    start(&word[..n], 2)
 }
 
 // The command that a path's last word tells behind `qsm-`, or else argument 1.
-fn by_name(path: &[u8]) -> Status {
+fn by_name<R: System>(rt: &R, path: &[u8]) -> Status {
     let at = shell::target::folder(path);
     if path.len() - at < 4 {
-        return by_word();
+        return by_word(rt);
     }
     let behind = at + 4;
-    if check::same(&path[at..behind], b"qsm-") {
-        return start(&path[behind..], 1);
+    if same(&path[at..behind], b"qsm-") {
+        return start(rt, &path[behind..], 1);
     }
-    by_word()
+    by_word(rt)
 }
 
 // What it was called by, which may be a link.
-fn by_link() -> Status {
+fn by_link<R: System>(rt: &R) -> Status {
     let mut path = io::buffer();
-    let n = os::arg(0, &mut path);
-    by_name(&path[..n])
+    let n = argument(rt, 0, &mut path);
+    by_name(rt, &path[..n])
 }
 
-// What C's main calls; it finds the arguments itself.
-#[unsafe(no_mangle)]
-pub extern "C" fn qsm_command() -> i32 {
-    number(by_link())
+// What the program's main calls: the command that its arguments ask for, and its exit status.
+pub fn qsm_command<R: System>(rt: &R) -> i32 {
+    number(by_link(rt))
 }

@@ -1,5 +1,7 @@
 // Commands by their names.
 use console::status::Status;
+use files::system::System;
+use files::words::same;
 
 // Whether there is a command of the name, and what it ended with.
 #[derive(Clone, Copy)]
@@ -16,15 +18,15 @@ fn done(status: Status) -> Ran {
 }
 
 // Of what a trace does.
-fn of_traces(name: &[u8], from: usize) -> Ran {
-    if check::same(name, b"replay") {
-        return done(cmd_replay::run(from));
+fn of_traces<R: System>(rt: &R, name: &[u8], from: usize) -> Ran {
+    if same(name, b"replay") {
+        return done(cmd_replay::run(rt, from));
     }
-    if check::same(name, b"lines") {
-        return done(cmd_lines::run(from));
+    if same(name, b"lines") {
+        return done(cmd_lines::run(rt, from));
     }
-    if check::same(name, b"wave") {
-        return done(cmd_wave::run(from));
+    if same(name, b"wave") {
+        return done(cmd_wave::run(rt, from));
     }
     Ran {
         known: false,
@@ -33,12 +35,12 @@ fn of_traces(name: &[u8], from: usize) -> Ran {
 }
 
 // Of logs.
-fn of_logs(name: &[u8], from: usize) -> Ran {
-    if check::same(name, b"show") {
-        return done(cmd_show::run(from));
+fn of_logs<R: System>(rt: &R, name: &[u8], from: usize) -> Ran {
+    if same(name, b"show") {
+        return done(cmd_show::run(rt, from));
     }
-    if check::same(name, b"compare") {
-        return done(cmd_compare::run(from));
+    if same(name, b"compare") {
+        return done(cmd_compare::run(rt, from));
     }
     Ran {
         known: false,
@@ -47,18 +49,18 @@ fn of_logs(name: &[u8], from: usize) -> Ran {
 }
 
 // Of the queue, settings and indexes.
-fn of_files(name: &[u8], from: usize) -> Ran {
-    if check::same(name, b"plan") {
-        return done(cmd_plan::run(from));
+fn of_files<R: System>(rt: &R, name: &[u8], from: usize) -> Ran {
+    if same(name, b"plan") {
+        return done(cmd_plan::run(rt, from));
     }
-    if check::same(name, b"editions") {
-        return done(cmd_editions::run(from));
+    if same(name, b"editions") {
+        return done(cmd_editions::run(rt, from));
     }
-    if check::same(name, b"index") {
-        return done(cmd_index::run(from));
+    if same(name, b"index") {
+        return done(cmd_index::run(rt, from));
     }
-    if check::same(name, b"find") {
-        return done(cmd_find::run(from));
+    if same(name, b"find") {
+        return done(cmd_find::run(rt, from));
     }
     Ran {
         known: false,
@@ -67,31 +69,31 @@ fn of_files(name: &[u8], from: usize) -> Ran {
 }
 
 // The command of a name, whose words begin at an argument; unknown, and nothing done, where there is none.
-pub fn run(name: &[u8], from: usize) -> Ran {
-    let first = of_traces(name, from);
+pub fn run<R: System>(rt: &R, name: &[u8], from: usize) -> Ran {
+    let first = of_traces(rt, name, from);
     if first.known {
         return first;
     }
-    let second = of_logs(name, from);
+    let second = of_logs(rt, name, from);
     if second.known {
         return second;
     }
-    of_files(name, from)
+    of_files(rt, name, from)
 }
 
 pub fn is_help(name: &[u8]) -> bool {
-    if check::same(name, b"help") {
+    if same(name, b"help") {
         return true;
     }
-    if check::same(name, b"--help") {
+    if same(name, b"--help") {
         return true;
     }
-    check::same(name, b"-h")
+    same(name, b"-h")
 }
 
 pub fn is_version(name: &[u8]) -> bool {
-    if check::same(name, b"version") {
+    if same(name, b"version") {
         return true;
     }
-    check::same(name, b"--version")
+    same(name, b"--version")
 }
