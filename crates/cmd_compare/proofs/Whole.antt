@@ -1,6 +1,6 @@
 -- The laws of specs/Whole. Assumes nothing.
 use mathlib.Core.Path.{◌≡◌, refl, sym, ap, ◌∙◌}
-use mathlib.Core.Bool.{Bool, true, false, cond}
+use mathlib.Core.Bool.{Bool, true, false}
 use mathlib.Core.List.{List, [], ◌∷◌, ◌++◌}
 use Prim.Native.Nat.{ℕ}
 use native.Mathlib.Omega.{arith}
@@ -12,9 +12,7 @@ use Rattle.tool_compare.specs.Compare.{Outcome, compared_as}
 use Rattle.tool_compare.specs.Laws.{Tells}
 use Rattle.tool_compare.proofs.Alike.{both}
 use Rattle.tool_compare.proofs.ByKind.{in_pieces, tells_all}
-use Rattle.cmd_compare.specs.Tally.{equal}
-use Rattle.cmd_compare.specs.Whole.{Tallies, PiecesTally, Exactly, EqualExactly, Claims}
-use Rattle.cmd_compare.specs.declared.tally.Tally.{Tally}
+use Rattle.cmd_compare.specs.Whole.{PiecesTally, EqualExactly, Claims}
 
 pieces_tally : PiecesTally
 pieces_tally kind n a b c d l m lent t first second h q room few one two =

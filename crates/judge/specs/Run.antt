@@ -1,5 +1,5 @@
 -- A trace and a log read piece by piece: what comes after a piece of either is done with.
-use Rattle.std.specs.Prelude.{Bool, cond, ◌||◌, ℕ, eqb}
+use Rattle.std.specs.Prelude.{Bool, cond, ℕ, eqb}
 use Rattle.judge.specs.declared.run.Next.{Next}
 use Rattle.judge.specs.declared.run.Next.TheVariants.{Trace, Log, Done}
 
