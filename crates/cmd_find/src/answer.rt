@@ -7,6 +7,7 @@ ghost use Rattle.cmd_find.specs.Answer.{place_line, missing_line, found_text, st
 use crate::piece::What;
 use console::output::{Out, put_line};
 use console::status::Status;
+use files::system::Sink;
 use qsm::event::Event;
 use text::line::Line;
 use text::record::record_line;
@@ -36,11 +37,19 @@ pub fn missing_line(number: u64) -> Line
 }
 
 // Ruled out: the record without its place; the line of another record.
-pub fn put_found(out: Out, buf: &mut [u8], number: u64, at: Position, kind: u8, e: Event) -> Out
+pub fn put_found(
+    to: &Sink,
+    out: Out,
+    buf: &mut [u8],
+    number: u64,
+    at: Position,
+    kind: u8,
+    e: Event,
+) -> Out
     ensures { Gives out buf.old (found_text number at kind e) result buf.new }
 {
-    let placed = put_line(out, buf, place_line(at.place, at.resets));
-    put_line(placed, buf, record_line(number, kind, e))
+    let placed = put_line(to, out, buf, place_line(at.place, at.resets));
+    put_line(to, placed, buf, record_line(number, kind, e))
 }
 
 // The status of what stands where the record was looked for.

@@ -7,6 +7,8 @@ use console::output::{Out, flush};
 use console::status::{Status, worse};
 use files::command::named_word;
 use files::message::{fail, say};
+use files::origin::Origin;
+use files::system::{Sink, System};
 use marks::read_marks;
 use piece::{Looked, What};
 use qsm::event::Event;
@@ -21,22 +23,31 @@ mod piece;
 mod stream;
 
 // The record on standard output; whether it could not be written, which is said.
-fn print(number: u64, at: Position, kind: u8, e: Event) -> bool {
+fn print<R: System>(rt: &R, number: u64, at: Position, kind: u8, e: Event) -> bool {
+    let output = Sink::output(rt);
     let mut buf = io::buffer();
-    let out = put_found(Out::standard(), &mut buf, number, at, kind, e);
-    let end = flush(out, &buf);
+    let out = put_found(
+        &output,
+        Out::standard(&output),
+        &mut buf,
+        number,
+        at,
+        kind,
+        e,
+    );
+    let end = flush(&output, out, &buf);
     if end.failed {
-        fail(b"find", b"standard output");
+        fail(b"find", b"standard output", output.error());
     }
     end.failed
 }
 
 // Tells what stands where the record was looked for.
-fn report(number: u64, l: Looked) -> Status {
+fn report<R: System>(rt: &R, number: u64, l: Looked) -> Status {
     let what = l.what;
     let at = l.at;
     match what {
-        What::Found(kind, e) => worse(print(number, at, kind, e), status(what)),
+        What::Found(kind, e) => worse(print(rt, number, at, kind, e), status(what)),
         What::Missing => {
             say_line(b"find", missing_line(number));
             status(what)
@@ -48,51 +59,56 @@ fn report(number: u64, l: Looked) -> Status {
     }
 }
 
-fn look(fd: i32, name: &[u8], lent: &[u64], count: usize, number: u64) -> Status {
-    let t = stream::find(fd, lent, count, number);
+fn look<R: System>(
+    rt: &R,
+    from: &Origin,
+    name: &[u8],
+    lent: &[u64],
+    count: usize,
+    number: u64,
+) -> Status {
+    let t = stream::find(rt, from, lent, count, number);
     let source = t.source;
     if source.failed {
-        fail(b"find", name);
+        fail(b"find", name, from.error());
         return Status::Failed;
     }
-    report(number, t.looked)
+    report(rt, number, t.looked)
 }
 
 // The trace that the first word of the command names.
-fn open(from: usize, lent: &[u64], count: usize, number: u64) -> Status {
+fn open<R: System>(rt: &R, from: usize, lent: &[u64], count: usize, number: u64) -> Status {
     let mut name = io::buffer();
-    let i = files::input::open_from(from, b"find", 0, &mut name);
-    let fd = i.fd;
+    let i = files::input::open_from(rt, from, b"find", 0, &mut name);
     let n = i.name;
-    if fd < 0 {
+    let Some(input) = i.from else {
         return Status::Failed;
-    }
-    let s = look(fd, &name[..n], lent, count, number);
-    libc::close(fd);
-    s
+    };
+    look(rt, &input, &name[..n], lent, count, number)
 }
 
 // The marks of the file that the second word names.
-fn by_marks(from: usize, number: u64) -> Status {
+fn by_marks<R: System>(rt: &R, from: usize, number: u64) -> Status {
     let mut path = io::buffer();
-    let n = named_word(from, 1, &mut path);
+    let n = named_word(rt, from, 1, &mut path);
     let mut lent = numbers();
-    let m = read_marks(b"find", &path[..n], false, &mut lent);
+    let m = read_marks(rt, b"find", &path[..n], false, &mut lent);
     if m.read {
-        return open(from, &lent, m.count, number);
+        return open(rt, from, &lent, m.count, number);
     }
     Status::Failed
 }
 
-fn wanted(from: usize) -> Number {
+fn wanted<R: System>(rt: &R, from: usize) -> Number {
     let mut word = io::buffer();
-    let n = named_word(from, 2, &mut word);
+    let n = named_word(rt, from, 2, &mut word);
     parse_number(&word[..n])
 }
 
 // The command, whose words begin at an argument.
-pub fn run(from: usize) -> Status {
+pub fn run<R: System>(rt: &R, from: usize) -> Status {
     let c = files::command::read_from(
+        rt,
         from,
         b"find",
         b"",
@@ -116,9 +132,9 @@ Exit status: 0 the record is printed, 1 there is no such record, 2 could not be 
     if !c.go {
         return worse(c.wrong, Status::Done);
     }
-    let Number::Is(number) = wanted(from) else {
+    let Number::Is(number) = wanted(rt, from) else {
         say(b"find", b"NUMBER is no decimal number\n");
         return Status::Failed;
     };
-    by_marks(from, number)
+    by_marks(rt, from, number)
 }

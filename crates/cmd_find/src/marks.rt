@@ -4,7 +4,10 @@ ghost use Rattle.io.specs.Counts.{IsPrefixLen};
 ghost use Rattle.cmd_find.specs.Marks.{are_marks};
 
 use files::message::{fail, say_of};
+use files::origin::Origin;
 use files::pieces::{Filled, fill};
+use files::system::System;
+use std::io::ErrorKind;
 use tool_index::stored::{BYTES, decode};
 
 // Whether a file of marks could be read, and how many it has.
@@ -32,7 +35,7 @@ fn of(read: bool, count: usize) -> Marks
 }
 
 // Reads until the file ends, a read fails or the buffer is full.
-fn read_all(fd: i32, buf: &mut [u8]) -> Filled
+fn read_all<R: System>(rt: &R, from: &Origin, buf: &mut [u8]) -> Filled
     ensures { IsPrefixLen result.total buf.new }
 {
     let mut f = Filled {
@@ -42,7 +45,7 @@ fn read_all(fd: i32, buf: &mut [u8]) -> Filled
     };
     let mut turns = u64::MAX;
     while turns > 0 {
-        f = fill(fd, buf, f.total, false);
+        f = fill(rt, from, buf, f.total, false);
         if f.ended | (f.total >= buf.len()) {
             return f;
         }
@@ -52,22 +55,28 @@ fn read_all(fd: i32, buf: &mut [u8]) -> Filled
 }
 
 // Whether a file has ended.
-fn at_end(fd: i32) -> bool {
+fn at_end<R: System>(rt: &R, from: &Origin) -> bool {
     let mut one = [0u8; 1];
-    let f = fill(fd, &mut one, 0, false);
+    let f = fill(rt, from, &mut one, 0, false);
     f.ended
 }
 
 // The marks of an open file. What can't be read and what is no file of marks is said.
-fn decode_all(program: &[u8], path: &[u8], fd: i32, lent: &mut [u64]) -> Marks {
+fn decode_all<R: System>(
+    rt: &R,
+    program: &[u8],
+    path: &[u8],
+    from: &Origin,
+    lent: &mut [u64],
+) -> Marks {
     let mut stored = io::large_buffer();
-    let f = read_all(fd, &mut stored);
+    let f = read_all(rt, from, &mut stored);
     let n = f.total;
     if f.failed {
-        fail(program, path);
+        fail(program, path, from.error());
         return of(false, 0);
     }
-    if are_marks(n, f.ended | at_end(fd)) {
+    if are_marks(n, f.ended | at_end(rt, from)) {
         return of(true, decode(&stored[..n], lent));
     }
     say_of(program, b"no file of marks: ", path);
@@ -75,16 +84,21 @@ fn decode_all(program: &[u8], path: &[u8], fd: i32, lent: &mut [u64]) -> Marks {
 }
 
 // The marks of the file at a path, at the start of lent numbers. A file that is not there has none, where it may be new. What can't be opened is said.
-pub fn read_marks(program: &[u8], path: &[u8], new: bool, lent: &mut [u64]) -> Marks {
-    let fd = os::open_read(path);
-    if fd < 0 {
-        if new & (os::errno() == libc::ENOENT) {
-            return of(true, 0);
+pub fn read_marks<R: System>(
+    rt: &R,
+    program: &[u8],
+    path: &[u8],
+    new: bool,
+    lent: &mut [u64],
+) -> Marks {
+    match Origin::open(rt, path) {
+        Ok(from) => decode_all(rt, program, path, &from, lent),
+        Err(e) => {
+            if new & (e.kind() == ErrorKind::NotFound) {
+                return of(true, 0);
+            }
+            fail(program, path, e);
+            of(false, 0)
         }
-        fail(program, path);
-        return of(false, 0);
     }
-    let m = decode_all(program, path, fd, lent);
-    libc::close(fd);
-    m
 }

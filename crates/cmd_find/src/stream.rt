@@ -1,6 +1,8 @@
 // A trace read from a mark on, up to a record.
 use crate::piece::{Looked, What, look};
 use console::input::{Source, more};
+use files::origin::Origin;
+use files::system::System;
 use files::whole::seek;
 use tool_index::walk::Position;
 
@@ -12,10 +14,10 @@ pub struct Turned {
 }
 
 // The mark before the record, or the last one, if the trace goes on there; else its start. A mark that no trace can have is not gone to.
-fn begin(fd: i32, lent: &[u64], count: usize, number: u64) -> Position {
+fn begin<R: System>(rt: &R, from: &Origin, lent: &[u64], count: usize, number: u64) -> Position {
     let mark = tool_index::index::mark_for(lent, count, number);
     if mark.possible(u64::MAX) {
-        if seek(fd, mark.place) {
+        if seek(rt, from, mark.place) {
             return mark;
         }
     }
@@ -23,9 +25,9 @@ fn begin(fd: i32, lent: &[u64], count: usize, number: u64) -> Position {
 }
 
 // Reads once and walks through what is there.
-fn turn(t: Turned, number: u64, buf: &mut [u8]) -> Turned {
+fn turn<R: System>(rt: &R, from: &Origin, t: Turned, number: u64, buf: &mut [u8]) -> Turned {
     let before = t.looked;
-    let source = more(t.source, buf, before.read);
+    let source = more(rt, from, t.source, buf, before.read);
     if source.failed {
         return Turned {
             source,
@@ -40,19 +42,19 @@ fn turn(t: Turned, number: u64, buf: &mut [u8]) -> Turned {
 }
 
 // Reads on until the record is found or there is none, or the trace could not be read.
-pub fn find(fd: i32, lent: &[u64], count: usize, number: u64) -> Turned {
+pub fn find<R: System>(rt: &R, from: &Origin, lent: &[u64], count: usize, number: u64) -> Turned {
     let mut buf = io::large_buffer();
     let mut now = Turned {
-        source: Source::of(fd),
+        source: Source::of(from),
         looked: Looked {
-            at: begin(fd, lent, count, number),
+            at: begin(rt, from, lent, count, number),
             read: 0,
             what: What::More,
         },
     };
     let mut turns = u64::MAX;
     while turns > 0 {
-        now = turn(now, number, &mut buf);
+        now = turn(rt, from, now, number, &mut buf);
         let source = now.source;
         if source.failed {
             return now;

@@ -5,11 +5,12 @@ ghost use Rattle.cmd_index.specs.File.{file_of};
 
 use console::output::{Out, put};
 use files::pieces::least;
+use files::system::Sink;
 use tool_index::stored::mark_bytes;
 
 // Gives the first so many marks to an output, or all that there are.
 // Ruled out: a mark left out or written twice; resets for the place.
-pub fn put_marks(out: Out, buf: &mut [u8], lent: &[u64], count: usize) -> Out
+pub fn put_marks(to: &Sink, out: Out, buf: &mut [u8], lent: &[u64], count: usize) -> Out
     ensures { Gives out buf.old (file_of lent.now (min count (length lent.now / 2))) result buf.new }
 {
     let n = least(count, lent.len() / 2);
@@ -17,7 +18,7 @@ pub fn put_marks(out: Out, buf: &mut [u8], lent: &[u64], count: usize) -> Out
     let mut i: usize = 0;
     while i < n {
         let mark = mark_bytes(lent[2 * i], lent[2 * i + 1]);
-        given = put(given, buf, &mark);
+        given = put(to, given, buf, &mark);
         i += 1;
     }
     given

@@ -8,6 +8,8 @@ use console::output::{Out, flush, put_line};
 use console::status::{Status, worse};
 use files::command::named_word;
 use files::message::{fail, say};
+use files::origin::Origin;
+use files::system::{Sink, System};
 use piece::{Made, Next};
 use save::save;
 use text::message::stop_line;
@@ -37,73 +39,84 @@ fn say_end(m: Made) {
 }
 
 // How many marks and records there are, on standard output; whether it could not be written, which is said.
-fn print(marks: u64, records: u64) -> bool {
+fn print<R: System>(rt: &R, marks: u64, records: u64) -> bool {
+    let output = Sink::output(rt);
     let mut buf = io::buffer();
-    let out = put_line(Out::standard(), &mut buf, count_line(marks, records));
-    let end = flush(out, &buf);
+    let out = put_line(
+        &output,
+        Out::standard(&output),
+        &mut buf,
+        count_line(marks, records),
+    );
+    let end = flush(&output, out, &buf);
     if end.failed {
-        fail(b"index", b"standard output");
+        fail(b"index", b"standard output", output.error());
     }
     end.failed
 }
 
 // Whether the marks could not be kept, or it could not be said.
-fn keep(path: &[u8], lent: &[u64], m: Made) -> bool {
+fn keep<R: System>(rt: &R, path: &[u8], lent: &[u64], m: Made) -> bool {
     let at = m.at;
-    if save(path, lent, m.marks) {
-        return print(m.marks as u64, at.number);
+    if save(rt, path, lent, m.marks) {
+        return print(rt, m.marks as u64, at.number);
     }
     true
 }
 
-fn report(path: &[u8], lent: &[u64], m: Made) -> Status {
+fn report<R: System>(rt: &R, path: &[u8], lent: &[u64], m: Made) -> Status {
     let next = m.next;
     say_end(m);
     if keeps(next) {
-        return worse(keep(path, lent, m), status(next));
+        return worse(keep(rt, path, lent, m), status(next));
     }
     status(next)
 }
 
-fn extend(fd: i32, name: &[u8], path: &[u8], lent: &mut [u64], count: usize) -> Status {
-    let t = stream::index(fd, lent, count);
+fn extend<R: System>(
+    rt: &R,
+    from: &Origin,
+    name: &[u8],
+    path: &[u8],
+    lent: &mut [u64],
+    count: usize,
+) -> Status {
+    let t = stream::index(rt, from, lent, count);
     let source = t.source;
     if source.failed {
-        fail(b"index", name);
+        fail(b"index", name, from.error());
         return Status::Failed;
     }
-    report(path, lent, t.made)
+    report(rt, path, lent, t.made)
 }
 
 // The trace that the first word of the command names.
-fn open(from: usize, path: &[u8], lent: &mut [u64], count: usize) -> Status {
+fn open<R: System>(rt: &R, from: usize, path: &[u8], lent: &mut [u64], count: usize) -> Status {
     let mut name = io::buffer();
-    let i = files::input::open_from(from, b"index", 0, &mut name);
-    let fd = i.fd;
+    let i = files::input::open_from(rt, from, b"index", 0, &mut name);
     let n = i.name;
-    if fd < 0 {
+    let Some(input) = i.from else {
         return Status::Failed;
-    }
-    let s = extend(fd, &name[..n], path, lent, count);
-    libc::close(fd);
-    s
+    };
+    extend(rt, &input, &name[..n], path, lent, count)
 }
 
 // The marks of the file that the second word names, if there is one, and then those of the trace.
-fn by_marks(from: usize) -> Status {
+fn by_marks<R: System>(rt: &R, from: usize) -> Status {
     let mut path = io::buffer();
-    let n = named_word(from, 1, &mut path);
+    let n = named_word(rt, from, 1, &mut path);
     let mut lent = numbers();
-    let m = read_marks(b"index", &path[..n], true, &mut lent);
+    let m = read_marks(rt, b"index", &path[..n], true, &mut lent);
     if m.read {
-        return open(from, &path[..n], &mut lent, m.count);
+        return open(rt, from, &path[..n], &mut lent, m.count);
     }
     Status::Failed
 }
 
 // The command, whose words begin at an argument.
-pub fn run(from: usize) -> Status {
+pub fn run<R: System>(rt: &R, from: usize) -> Status {
     let c = files::command::read_from(
+        rt,
         from,
         b"index",
         b"",
@@ -127,5 +140,5 @@ Exit status: 0 the whole trace is indexed, 1 it is indexed up to a stop, 2 could
     if !c.go {
         return worse(c.wrong, Status::Done);
     }
-    by_marks(from)
+    by_marks(rt, from)
 }

@@ -3,21 +3,21 @@ use crate::file::put_marks;
 use console::output::{Out, flush};
 use files::message::fail;
 use files::output::{begin, finish};
+use files::system::System;
 
 // Replaces a file of marks. Where it can't, that is said.
-pub fn save(path: &[u8], lent: &[u64], count: usize) -> bool {
+pub fn save<R: System>(rt: &R, path: &[u8], lent: &[u64], count: usize) -> bool {
     let mut name = io::buffer();
-    let o = begin(b"index", path, &mut name);
-    let fd = o.fd;
+    let o = begin(rt, b"index", path, &mut name);
     let n = o.name;
-    if fd < 0 {
+    let Some(sink) = o.sink else {
         return false;
-    }
+    };
     let mut buf = io::large_buffer();
-    let out = put_marks(Out::to(fd, false), &mut buf, lent, count);
-    let end = flush(out, &buf);
+    let out = put_marks(&sink, Out::to(false), &mut buf, lent, count);
+    let end = flush(&sink, out, &buf);
     if end.failed {
-        fail(b"index", &name[..n]);
+        fail(b"index", &name[..n], sink.error());
     }
-    finish(b"index", fd, &name[..n], path, !end.failed)
+    finish(rt, b"index", sink, &name[..n], path, !end.failed)
 }

@@ -1,6 +1,8 @@
 // A trace read from the last mark on, and indexed.
 use crate::piece::{Made, Next, make};
 use console::input::{Source, more};
+use files::origin::Origin;
+use files::system::System;
 use files::whole::seek;
 use tool_index::walk::Position;
 
@@ -21,10 +23,10 @@ fn nothing_read(at: Position, marks: usize) -> Made {
 }
 
 // The last mark, if the trace goes on there; else its start, and marks afresh. A mark that no trace can have is not gone to.
-fn begin(fd: i32, lent: &[u64], count: usize) -> Made {
+fn begin<R: System>(rt: &R, from: &Origin, lent: &[u64], count: usize) -> Made {
     let last = tool_index::index::mark_for(lent, count, u64::MAX);
     if last.possible(u64::MAX) {
-        if seek(fd, last.place) {
+        if seek(rt, from, last.place) {
             return nothing_read(last, count);
         }
     }
@@ -32,9 +34,9 @@ fn begin(fd: i32, lent: &[u64], count: usize) -> Made {
 }
 
 // Reads once and indexes what is there.
-fn turn(t: Turned, buf: &mut [u8], lent: &mut [u64]) -> Turned {
+fn turn<R: System>(rt: &R, from: &Origin, t: Turned, buf: &mut [u8], lent: &mut [u64]) -> Turned {
     let before = t.made;
-    let source = more(t.source, buf, before.read);
+    let source = more(rt, from, t.source, buf, before.read);
     if source.failed {
         return Turned {
             source,
@@ -49,15 +51,15 @@ fn turn(t: Turned, buf: &mut [u8], lent: &mut [u64]) -> Turned {
 }
 
 // Reads on until the trace is indexed, or could not be read.
-pub fn index(fd: i32, lent: &mut [u64], count: usize) -> Turned {
+pub fn index<R: System>(rt: &R, from: &Origin, lent: &mut [u64], count: usize) -> Turned {
     let mut buf = io::large_buffer();
     let mut now = Turned {
-        source: Source::of(fd),
-        made: begin(fd, lent, count),
+        source: Source::of(from),
+        made: begin(rt, from, lent, count),
     };
     let mut turns = u64::MAX;
     while turns > 0 {
-        now = turn(now, &mut buf, lent);
+        now = turn(rt, from, now, &mut buf, lent);
         let source = now.source;
         if source.failed {
             return now;

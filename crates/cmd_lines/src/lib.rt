@@ -8,7 +8,10 @@ use console::output::{Out, flush};
 use console::status::{Status, worse};
 use ending::{status, stop_line};
 use files::message::{fail, say, say_of};
+use files::origin::Origin;
+use files::system::{Sink, System};
 use piece::Wanted;
+use std::io::Error;
 use text::number::Number;
 use tool_lines::line::Outcome;
 
@@ -31,28 +34,30 @@ fn say_end(told: Outcome, place: u64) {
 }
 
 // Writes what waits; whether it could not be written, which is said.
-fn write_rest(out: Out, err: Out, lines: &[u8], words: &[u8]) -> bool {
-    let said = flush(err, words);
-    let written = flush(out, lines);
+fn write_rest(to: &Sink, out: Out, err: &Sink, notes: Out, lines: &[u8], words: &[u8]) -> bool {
+    let said = flush(err, notes, words);
+    let written = flush(to, out, lines);
     if written.failed {
-        fail(b"lines", b"standard output");
+        fail(b"lines", b"standard output", to.error());
     }
     written.failed | said.failed
 }
 
 // What could not be read is said before another call can fail.
-fn say_unread(failed: bool, name: &[u8]) {
+fn say_unread(failed: bool, name: &[u8], error: Error) {
     if failed {
-        fail(b"lines", name);
+        fail(b"lines", name, error);
     }
 }
 
-fn play(wanted: Wanted, fd: i32, name: &[u8]) -> Status {
+fn play<R: System>(rt: &R, wanted: Wanted, from: &Origin, name: &[u8]) -> Status {
+    let output = Sink::output(rt);
+    let errors = Sink::error_output(rt);
     let mut lines = io::large_buffer();
     let mut words = io::buffer();
-    let e = stream::play_all(wanted, fd, &mut lines, &mut words);
-    say_unread(e.unread, name);
-    let unwritten = write_rest(e.lines, e.words, &lines, &words);
+    let e = stream::play_all(rt, wanted, from, &output, &errors, &mut lines, &mut words);
+    say_unread(e.unread, name, from.error());
+    let unwritten = write_rest(&output, e.lines, &errors, e.words, &lines, &words);
     if e.unread | unwritten {
         return Status::Failed;
     }
@@ -69,29 +74,27 @@ fn at_most(k: u64) -> u32
 }
 
 // The trace that the second word of the command names.
-fn open(from: usize, wanted: Wanted) -> Status {
+fn open<R: System>(rt: &R, from: usize, wanted: Wanted) -> Status {
     let mut name = io::buffer();
-    let i = files::input::open_from(from, b"lines", 1, &mut name);
-    let fd = i.fd;
+    let i = files::input::open_from(rt, from, b"lines", 1, &mut name);
     let n = i.name;
-    if fd < 0 {
+    let Some(input) = i.from else {
         return Status::Failed;
-    }
-    let s = play(wanted, fd, &name[..n]);
-    libc::close(fd);
-    s
+    };
+    play(rt, wanted, &input, &name[..n])
 }
 
 // The period that the first word names.
-fn by_period(from: usize, noise: bool) -> Status {
+fn by_period<R: System>(rt: &R, from: usize, noise: bool) -> Status {
     let mut word = io::buffer();
-    let n = files::command::named_word(from, 0, &mut word);
+    let n = files::command::named_word(rt, from, 0, &mut word);
     let p = text::number::parse_number(&word[..n]);
     let Number::Is(k) = p else {
         say_of(b"lines", b"no number: ", &word[..n]);
         return Status::Failed;
     };
     open(
+        rt,
         from,
         Wanted {
             period: at_most(k),
@@ -101,8 +104,9 @@ fn by_period(from: usize, noise: bool) -> Status {
 }
 
 // The command, whose words begin at an argument.
-pub fn run(from: usize) -> Status {
+pub fn run<R: System>(rt: &R, from: usize) -> Status {
     let c = files::command::read_from(
+        rt,
         from,
         b"lines",
         b"--noise",
@@ -143,5 +147,5 @@ Exit status: 0 no line was dropped, 1 a line was dropped or the trace stopped, 2
     if !c.go {
         return worse(c.wrong, Status::Done);
     }
-    by_period(from, c.option)
+    by_period(rt, from, c.option)
 }

@@ -5,6 +5,7 @@ ghost use Rattle.cmd_lines.specs.Piece.{Turns, done, Plays};
 use crate::calls::{Run, over};
 use crate::told::{put_told, put_words};
 use console::output::Out;
+use files::system::Sink;
 use tool_lines::line::Outcome;
 
 // What is asked for: the clocks from poll to poll, and whether the noise of lines is.
@@ -23,7 +24,16 @@ pub struct Went {
 }
 
 // One call, and what it tells.
-fn turn(wanted: Wanted, w: Went, buf: &mut [u8], said: &mut [u8], bytes: &[u8], last: bool) -> Went
+fn turn(
+    wanted: Wanted,
+    to: &Sink,
+    err: &Sink,
+    w: Went,
+    buf: &mut [u8],
+    said: &mut [u8],
+    bytes: &[u8],
+    last: bool,
+) -> Went
     ensures { Turns wanted bytes.now last w buf.old said.old result buf.new said.new }
 {
     let before = w.run;
@@ -34,8 +44,8 @@ fn turn(wanted: Wanted, w: Went, buf: &mut [u8], said: &mut [u8], bytes: &[u8], 
     let characters = line.characters;
     let noise = state.noise;
     let heard = noise.last;
-    let lines = put_told(w.lines, buf, told, characters);
-    let words = put_words(wanted.noise, w.words, said, told, heard);
+    let lines = put_told(to, w.lines, buf, told, characters);
+    let words = put_words(wanted.noise, err, w.words, said, told, heard);
     Went { run, lines, words }
 }
 
@@ -50,6 +60,8 @@ fn done(told: Outcome, lines: Out, words: Out) -> bool
 // Ruled out: a line left out, written twice or out of order; a line handed over that was dropped; a drop that is not said.
 pub fn play(
     wanted: Wanted,
+    to: &Sink,
+    err: &Sink,
     w: Went,
     buf: &mut [u8],
     said: &mut [u8],
@@ -61,7 +73,7 @@ pub fn play(
     let mut now = w;
     let mut turns = u64::MAX;
     while turns > 0 {
-        now = turn(wanted, now, buf, said, bytes, last);
+        now = turn(wanted, to, err, now, buf, said, bytes, last);
         let run = now.run;
         let told = run.told;
         if done(told, now.lines, now.words) {

@@ -6,7 +6,9 @@ use crate::calls::Run;
 use crate::piece::{Wanted, Went, play};
 use console::input::{Source, more};
 use console::output::{Out, flush};
+use files::origin::Origin;
 use files::pieces::counted;
+use files::system::{Sink, System};
 use tool_lines::line::Outcome;
 
 // The input, and where the run stands.
@@ -29,25 +31,35 @@ pub struct End {
 }
 
 // What waits to be written does not wait for more to be read where that may take long.
-fn before_read(plain: bool, out: Out, buf: &[u8]) -> Out {
+fn before_read(plain: bool, to: &Sink, out: Out, buf: &[u8]) -> Out {
     if plain {
         return out;
     }
-    flush(out, buf)
+    flush(to, out, buf)
 }
 
 // Reads once, and plays what is there.
-fn turn(wanted: Wanted, t: Turned, buf: &mut [u8], lines: &mut [u8], words: &mut [u8]) -> Turned {
+fn turn<R: System>(
+    rt: &R,
+    wanted: Wanted,
+    from: &Origin,
+    to: &Sink,
+    err: &Sink,
+    t: Turned,
+    buf: &mut [u8],
+    lines: &mut [u8],
+    words: &mut [u8],
+) -> Turned {
     let source = t.source;
     let w = t.went;
     let run = w.run;
     let state = run.state;
     let start = Went {
         run: run.rebased(),
-        lines: before_read(source.plain, w.lines, lines),
-        words: before_read(source.plain, w.words, words),
+        lines: before_read(source.plain, to, w.lines, lines),
+        words: before_read(source.plain, err, w.words, words),
     };
-    let now = more(source, buf, state.at);
+    let now = more(rt, from, source, buf, state.at);
     if now.failed {
         return Turned {
             source: now,
@@ -57,7 +69,7 @@ fn turn(wanted: Wanted, t: Turned, buf: &mut [u8], lines: &mut [u8], words: &mut
     let n = now.total;
     Turned {
         source: now,
-        went: play(wanted, start, lines, words, &buf[..n], now.ended),
+        went: play(wanted, to, err, start, lines, words, &buf[..n], now.ended),
     }
 }
 
@@ -75,8 +87,8 @@ fn goes_on(told: Outcome) -> bool
     }
 }
 
-fn errors() -> Out {
-    Out::to(libc::STDERR_FILENO, libc::isatty(libc::STDERR_FILENO) != 0)
+fn errors(err: &Sink) -> Out {
+    Out::to(err.is_terminal())
 }
 
 fn ended(t: Turned) -> End {
@@ -97,25 +109,33 @@ fn ended(t: Turned) -> End {
     }
 }
 
-// Plays what comes from a descriptor, lines to standard output and words to standard error. What is left in the two buffers is still to be written.
-pub fn play_all(wanted: Wanted, fd: i32, lines: &mut [u8], words: &mut [u8]) -> End {
+// Plays what comes from an origin, lines to standard output and words to standard error. What is left in the two buffers is still to be written.
+pub fn play_all<R: System>(
+    rt: &R,
+    wanted: Wanted,
+    from: &Origin,
+    to: &Sink,
+    err: &Sink,
+    lines: &mut [u8],
+    words: &mut [u8],
+) -> End {
     let mut buf = io::large_buffer();
     let mut now = Turned {
-        source: Source::of(fd),
+        source: Source::of(from),
         went: Went {
             run: Run::start(),
-            lines: Out::standard(),
-            words: errors(),
+            lines: Out::standard(to),
+            words: errors(err),
         },
     };
     let mut turns = u64::MAX;
     while turns > 0 {
-        now = turn(wanted, now, &mut buf, lines, words);
+        now = turn(rt, wanted, from, to, err, now, &mut buf, lines, words);
         let e = ended(now);
         let out = e.lines;
-        let err = e.words;
+        let said = e.words;
         let told = e.told;
-        if e.unread | (out.failed | err.failed) | !goes_on(told) {
+        if e.unread | (out.failed | said.failed) | !goes_on(told) {
             return e;
         }
         turns -= 1;

@@ -19,7 +19,7 @@ nothing o buf =
       order = refl;
       kept = λ _. refl;
       stopped = λ _. (refl, (refl, refl));
-      same = (refl, refl);
+      same = refl;
       room = refl;
     }
 

@@ -9,6 +9,7 @@ ghost use Rattle.cmd_replay.specs.End.{status_of, tally_text, account_text, end_
 use crate::piece::Next;
 use console::output::{Out, put_line};
 use console::status::Status;
+use files::system::Sink;
 use qsm::state::Module;
 use reception::account::reported;
 use reception::tally::Tally;
@@ -37,29 +38,42 @@ fn module_line(m: Module) -> Line
     text::account::account_line(a.taken, a.lost, a.waiting)
 }
 
-fn put_tally(noise: bool, t: Tally, out: Out, buf: &mut [u8]) -> Out
+fn put_tally(noise: bool, t: Tally, to: &Sink, out: Out, buf: &mut [u8]) -> Out
     ensures { Gives out buf.old (tally_text noise t) result buf.new }
 {
     if noise {
-        return put_line(out, buf, text::noise::tally_line(t.words, t.noisy, t.worst));
+        return put_line(
+            to,
+            out,
+            buf,
+            text::noise::tally_line(t.words, t.noisy, t.worst),
+        );
     }
     out
 }
 
-fn put_account(account: bool, m: Module, out: Out, buf: &mut [u8]) -> Out
+fn put_account(account: bool, m: Module, to: &Sink, out: Out, buf: &mut [u8]) -> Out
     ensures { Gives out buf.old (account_text account m) result buf.new }
 {
     if account {
-        return put_line(out, buf, module_line(m));
+        return put_line(to, out, buf, module_line(m));
     }
     out
 }
 
 // The tally of the words and the account of the frames, each if it is asked for.
 // Ruled out: a line that is not asked for; the tally behind the account.
-pub fn put_end(noise: bool, t: Tally, account: bool, m: Module, out: Out, buf: &mut [u8]) -> Out
+pub fn put_end(
+    noise: bool,
+    t: Tally,
+    account: bool,
+    m: Module,
+    to: &Sink,
+    out: Out,
+    buf: &mut [u8],
+) -> Out
     ensures { Gives out buf.old (end_text noise t account m) result buf.new }
 {
-    let told = put_tally(noise, t, out, buf);
-    put_account(account, m, told, buf)
+    let told = put_tally(noise, t, to, out, buf);
+    put_account(account, m, to, told, buf)
 }

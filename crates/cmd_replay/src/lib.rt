@@ -6,9 +6,12 @@ use console::output::flush;
 use console::status::{Status, worse};
 use end::{put_end, status_of};
 use files::message::{fail, say};
+use files::origin::Origin;
+use files::system::{Sink, System};
 use noise::Noted;
 use piece::Next;
 use reception::tally::Tally;
+use std::io::Error;
 use stream::Turned;
 
 mod end;
@@ -17,11 +20,11 @@ mod piece;
 mod stream;
 
 // What could not be read, said before another call can fail.
-fn say_unread(next: Next, name: &[u8]) {
+fn say_unread(next: Next, name: &[u8], error: Error) {
     let Next::NotRead = next else {
         return;
     };
-    fail(b"replay", name);
+    fail(b"replay", name, error);
 }
 
 // A refusal is said with its record's number, from 0, and its place in bytes.
@@ -39,42 +42,52 @@ fn say_stop(t: Turned) {
     }
 }
 
-// Standard error is looked at first, so that what a read that fails leaves is still there to be said.
-fn played(noise: bool, fd: i32, lines: &mut [u8], words: &mut [u8]) -> Noted {
+fn played<R: System>(
+    rt: &R,
+    noise: bool,
+    from: &Origin,
+    to: &Sink,
+    err: &Sink,
+    lines: &mut [u8],
+    words: &mut [u8],
+) -> Noted {
     if noise {
-        return noise::replay(fd, lines, words);
+        return noise::replay(rt, from, to, err, lines, words);
     }
-    let notes = noise::error_output();
+    let notes = noise::error_output(err);
     Noted {
-        turned: stream::replay(fd, lines),
+        turned: stream::replay(rt, from, to, lines),
         tally: Tally::none(),
         notes,
     }
 }
 
-fn replay(noise: bool, account: bool, fd: i32, name: &[u8]) -> Status {
+fn replay<R: System>(rt: &R, noise: bool, account: bool, from: &Origin, name: &[u8]) -> Status {
+    let output = Sink::output(rt);
+    let errors = Sink::error_output(rt);
     let mut lines = io::large_buffer();
     let mut words = io::large_buffer();
-    let n = played(noise, fd, &mut lines, &mut words);
+    let n = played(rt, noise, from, &output, &errors, &mut lines, &mut words);
     let t = n.turned;
     let tally = n.tally;
     let next = t.next;
-    say_unread(next, name);
-    let out = flush(t.out, &lines);
+    say_unread(next, name, from.error());
+    let out = flush(&output, t.out, &lines);
     if out.failed {
-        fail(b"replay", b"standard output");
+        fail(b"replay", b"standard output", output.error());
     }
-    let notes = flush(n.notes, &words);
+    let notes = flush(&errors, n.notes, &words);
     say_stop(t);
     let m = t.run.state;
-    let told = put_end(noise, tally, account, m, notes, &mut words);
-    let last = flush(told, &words);
+    let told = put_end(noise, tally, account, m, &errors, notes, &mut words);
+    let last = flush(&errors, told, &words);
     worse(out.failed | last.failed, status_of(next))
 }
 
 // The command, whose words begin at an argument.
-pub fn run(from: usize) -> Status {
+pub fn run<R: System>(rt: &R, from: usize) -> Status {
     let c = files::command::read_from(
+        rt,
         from,
         b"replay",
         b"--noise",
@@ -115,13 +128,10 @@ Exit status: 0 all answered, 1 the trace stopped, 2 could not be done.
         return worse(c.wrong, Status::Done);
     }
     let mut name = io::buffer();
-    let i = files::input::open_from(from, b"replay", 0, &mut name);
-    let fd = i.fd;
+    let i = files::input::open_from(rt, from, b"replay", 0, &mut name);
     let n = i.name;
-    if fd < 0 {
+    let Some(input) = i.from else {
         return Status::Failed;
-    }
-    let s = replay(c.option, c.second, fd, &name[..n]);
-    libc::close(fd);
-    s
+    };
+    replay(rt, c.option, c.second, &input, &name[..n])
 }

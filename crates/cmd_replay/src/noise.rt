@@ -12,7 +12,8 @@ ghost use Rattle.cmd_replay.specs.Reached.{Reached};
 use crate::piece::Next;
 use crate::stream::{Turned, begin, goes_on, turn};
 use console::output::{Out, flush, put_line};
-use libc::STDERR_FILENO;
+use files::origin::Origin;
+use files::system::{Sink, System};
 use qsm::state::Module;
 use reception::arrival::{Arrival, arrived};
 use reception::tally::Tally;
@@ -26,17 +27,22 @@ pub struct Noted {
 }
 
 // Standard error, where a terminal has each line at once.
-pub fn error_output() -> Out {
-    Out::to(STDERR_FILENO, libc::isatty(STDERR_FILENO) != 0)
+pub fn error_output(err: &Sink) -> Out {
+    Out::to(err.is_terminal())
 }
 
 // The line of the word that comes after those of the tally: its number, from 0, is how many came before it.
 // Ruled out: a line of no word; the number of another word.
-fn put_arrival(tally: Tally, a: Arrival, out: Out, buf: &mut [u8]) -> Out
+fn put_arrival(tally: Tally, a: Arrival, err: &Sink, out: Out, buf: &mut [u8]) -> Out
     ensures { Gives out buf.old (arrival_text tally a) result buf.new }
 {
     match a {
-        Arrival::Came(figure) => put_line(out, buf, text::noise::noise_line(tally.words, figure)),
+        Arrival::Came(figure) => put_line(
+            err,
+            out,
+            buf,
+            text::noise::noise_line(tally.words, figure),
+        ),
         Arrival::Nothing => out,
     }
 }
@@ -50,7 +56,7 @@ fn tallied(before: Module, after: Module, tally: Tally) -> Tally
 }
 
 // What the run has said does not wait for more to be read where that may take long.
-fn before_read(t: Turned, notes: Out, lines: &[u8]) -> Out {
+fn before_read(t: Turned, err: &Sink, notes: Out, lines: &[u8]) -> Out {
     let next = t.next;
     let Next::Read = next else {
         return notes;
@@ -58,7 +64,7 @@ fn before_read(t: Turned, notes: Out, lines: &[u8]) -> Out {
     if t.source.plain {
         return notes;
     }
-    flush(notes, lines)
+    flush(err, notes, lines)
 }
 
 // Room for one answer, and not for two.
@@ -69,16 +75,26 @@ fn answer() -> [u8; 18]
 }
 
 // A turn, with the word that it brought.
-fn noticed(n: Noted, buf: &mut [u8], lines: &mut [u8], words: &mut [u8], room: &mut [u8]) -> Noted
+fn noticed<R: System>(
+    rt: &R,
+    from: &Origin,
+    to: &Sink,
+    err: &Sink,
+    n: Noted,
+    buf: &mut [u8],
+    lines: &mut [u8],
+    words: &mut [u8],
+    room: &mut [u8],
+) -> Noted
     ensures { Notices n (length room.old) result }
 {
     let t = n.turned;
     let tally = n.tally;
     let was = t.run.state;
-    let waiting = before_read(t, n.notes, words);
-    let u = turn(t, buf, lines, room);
+    let waiting = before_read(t, err, n.notes, words);
+    let u = turn(rt, from, to, t, buf, lines, room);
     let is = u.run.state;
-    let notes = put_arrival(tally, arrived(was, is), waiting, words);
+    let notes = put_arrival(tally, arrived(was, is), err, waiting, words);
     Noted {
         turned: u,
         tally: tallied(was, is, tally),
@@ -87,20 +103,27 @@ fn noticed(n: Noted, buf: &mut [u8], lines: &mut [u8], words: &mut [u8], room: &
 }
 
 // Ruled out: a tally of no words where one waits in SCDR; more noisy words than words.
-pub fn replay(fd: i32, lines: &mut [u8], words: &mut [u8]) -> Noted
+pub fn replay<R: System>(
+    rt: &R,
+    from: &Origin,
+    to: &Sink,
+    err: &Sink,
+    lines: &mut [u8],
+    words: &mut [u8],
+) -> Noted
     ensures notes { Notes result.turned.run result.tally }
     ensures reached { Reached result.turned.run }
 {
     let mut buf = io::large_buffer();
     let mut room = answer();
     let mut now = Noted {
-        turned: begin(fd),
+        turned: begin(from, to),
         tally: Tally::none(),
-        notes: error_output(),
+        notes: error_output(err),
     };
     let mut turns = u64::MAX;
     while turns > 0 {
-        now = noticed(now, &mut buf, lines, words, &mut room);
+        now = noticed(rt, from, to, err, now, &mut buf, lines, words, &mut room);
         let t = now.turned;
         let next = t.next;
         if !goes_on(next) {

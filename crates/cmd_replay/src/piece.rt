@@ -6,6 +6,7 @@ ghost use Rattle.cmd_replay.specs.Piece.{started, after_stop, unless_failed, Ste
 
 use console::output::{Out, put};
 use files::pieces::counted;
+use files::system::Sink;
 use qsm::state::Module;
 use trace::Stop;
 
@@ -80,6 +81,7 @@ fn unless_failed(failed: bool, next: Next) -> Next
 // Ruled out: a record played twice or left out; an answer left out of the log; a wrong number of records; a run that goes on after a failed write.
 pub fn step(
     run: Run,
+    to: &Sink,
     out: Out,
     buf: &mut [u8],
     piece: &[u8],
@@ -92,7 +94,7 @@ pub fn step(
     let m = run.state;
     let p = trace::play(m, piece, room);
     let n = p.written;
-    let given = put(out, buf, &room[..n]);
+    let given = put(to, out, buf, &room[..n]);
     let state = p.state;
     let stop = p.stop;
     Stepped {

@@ -6,7 +6,9 @@ ghost use Rattle.cmd_replay.specs.Piece.{started, goes_on};
 use crate::piece::{Next, Run, step};
 use console::input::{Source, more};
 use console::output::{Out, flush};
+use files::origin::Origin;
 use files::pieces::{counted, least};
+use files::system::{Sink, System};
 
 // The run, the output, the input with how many bytes of its buffer were played, and what follows.
 #[derive(Clone, Copy)]
@@ -20,13 +22,13 @@ pub struct Turned {
 
 // At the start of an input, with standard output.
 // Ruled out: a module that is not fresh from reset.
-pub fn begin(fd: i32) -> Turned
+pub fn begin(from: &Origin, to: &Sink) -> Turned
     ensures { result.run ≡ started }
 {
     Turned {
         run: Run::start(),
-        out: Out::standard(),
-        source: Source::of(fd),
+        out: Out::standard(to),
+        source: Source::of(from),
         at: 0,
         next: Next::Read,
     }
@@ -39,11 +41,11 @@ pub fn place(t: Turned) -> u64 {
 }
 
 // What waits to be written does not wait for more to be read where that may take long.
-fn before_read(source: Source, out: Out, lines: &[u8]) -> Out {
+fn before_read(source: Source, to: &Sink, out: Out, lines: &[u8]) -> Out {
     if source.plain {
         return out;
     }
-    flush(out, lines)
+    flush(to, out, lines)
 }
 
 fn after_read(failed: bool) -> Next {
@@ -51,12 +53,19 @@ fn after_read(failed: bool) -> Next {
 }
 
 // Reads once, behind what is left.
-fn read_on(t: Turned, buf: &mut [u8], lines: &[u8]) -> Turned
+fn read_on<R: System>(
+    rt: &R,
+    from: &Origin,
+    to: &Sink,
+    t: Turned,
+    buf: &mut [u8],
+    lines: &[u8],
+) -> Turned
     ensures { result.run ≡ t.run }
 {
     let run = t.run;
     let source = t.source;
-    let out = before_read(source, t.out, lines);
+    let out = before_read(source, to, t.out, lines);
     if out.failed {
         return Turned {
             run,
@@ -66,7 +75,7 @@ fn read_on(t: Turned, buf: &mut [u8], lines: &[u8]) -> Turned
             next: Next::NotWritten,
         };
     }
-    let now = more(source, buf, t.at);
+    let now = more(rt, from, source, buf, t.at);
     Turned {
         run,
         out,
@@ -77,14 +86,14 @@ fn read_on(t: Turned, buf: &mut [u8], lines: &[u8]) -> Turned
 }
 
 // Plays what is there.
-fn play_on(t: Turned, buf: &[u8], lines: &mut [u8], room: &mut [u8]) -> Turned
+fn play_on(to: &Sink, t: Turned, buf: &[u8], lines: &mut [u8], room: &mut [u8]) -> Turned
     ensures { Turns t.run (length room.old) result }
 {
     let source = t.source;
     let end = least(source.total, buf.len());
     let from = least(t.at, end);
     let run = t.run;
-    let s = step(run, t.out, lines, &buf[from..end], source.ended, room);
+    let s = step(run, to, t.out, lines, &buf[from..end], source.ended, room);
     let past = s.run;
     let next = s.next;
     let given = s.out;
@@ -99,13 +108,21 @@ fn play_on(t: Turned, buf: &[u8], lines: &mut [u8], room: &mut [u8]) -> Turned
 
 // Plays what is there, or reads more.
 // Ruled out: a module that is not what the bytes played leave.
-pub fn turn(t: Turned, buf: &mut [u8], lines: &mut [u8], room: &mut [u8]) -> Turned
+pub fn turn<R: System>(
+    rt: &R,
+    from: &Origin,
+    to: &Sink,
+    t: Turned,
+    buf: &mut [u8],
+    lines: &mut [u8],
+    room: &mut [u8],
+) -> Turned
     ensures { Turns t.run (length room.old) result }
 {
     let next = t.next;
     match next {
-        Next::Read => read_on(t, buf, lines),
-        _ => play_on(t, buf, lines, room),
+        Next::Read => read_on(rt, from, to, t, buf, lines),
+        _ => play_on(to, t, buf, lines, room),
     }
 }
 
@@ -131,17 +148,17 @@ fn answers() -> [u8; 589824]
     [0u8; 589824]
 }
 
-// Plays what a descriptor gives, to a log on standard output. What is left in the buffer for it is still to be written.
+// Plays what an origin gives, to a log on standard output. What is left in the buffer for it is still to be written.
 // Ruled out: a module that the records answered don't lead to; so, by the law `OfRecords`, an account that is not of the events since the last reset.
-pub fn replay(fd: i32, lines: &mut [u8]) -> Turned
+pub fn replay<R: System>(rt: &R, from: &Origin, to: &Sink, lines: &mut [u8]) -> Turned
     ensures { Reached result.run }
 {
     let mut buf = io::large_buffer();
     let mut room = answers();
-    let mut now = begin(fd);
+    let mut now = begin(from, to);
     let mut turns = u64::MAX;
     while turns > 0 {
-        now = turn(now, &mut buf, lines, &mut room);
+        now = turn(rt, from, to, now, &mut buf, lines, &mut room);
         let next = now.next;
         if !goes_on(next) {
             return now;

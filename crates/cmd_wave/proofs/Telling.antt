@@ -32,6 +32,6 @@ none o buf =
       order = refl;
       kept = λ _. refl;
       stopped = λ _. (refl, (refl, refl));
-      same = (refl, refl);
+      same = refl;
       room = refl;
     }

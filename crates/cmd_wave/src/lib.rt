@@ -10,6 +10,9 @@ use console::status::{Status, worse};
 use ending::{status, stop_line};
 use files::command::Command;
 use files::message::{fail, say};
+use files::origin::Origin;
+use files::system::{Sink, System};
+use std::io::Error;
 use text::number::Number;
 use tool_wave::Outcome;
 
@@ -18,8 +21,9 @@ mod piece;
 mod stream;
 
 // The names of what is drawn, before the first change.
-fn put_header(out: Out, buf: &mut [u8]) -> Out {
+fn put_header(to: &Sink, out: Out, buf: &mut [u8]) -> Out {
     put(
+        to,
         out,
         buf,
         b"\
@@ -75,36 +79,37 @@ fn say_end(told: Outcome, place: u64) {
 }
 
 // The time of the end, to which all stays as it is, where the trace was read up to it.
-fn put_end(unread: bool, hz: u32, clock: u64, out: Out, lines: &mut [u8]) -> Out {
+fn put_end(unread: bool, hz: u32, clock: u64, to: &Sink, out: Out, lines: &mut [u8]) -> Out {
     if unread {
         return out;
     }
-    put_line(out, lines, tool_wave::vcd::time_text(hz, clock))
+    put_line(to, out, lines, tool_wave::vcd::time_text(hz, clock))
 }
 
 // Writes what waits; whether it could not be written, which is said.
-fn write_rest(out: Out, lines: &[u8]) -> bool {
-    let end = flush(out, lines);
+fn write_rest(to: &Sink, out: Out, lines: &[u8]) -> bool {
+    let end = flush(to, out, lines);
     if end.failed {
-        fail(b"wave", b"standard output");
+        fail(b"wave", b"standard output", to.error());
     }
     end.failed
 }
 
 // What could not be read is said before another call can fail.
-fn say_unread(failed: bool, name: &[u8]) {
+fn say_unread(failed: bool, name: &[u8], error: Error) {
     if failed {
-        fail(b"wave", name);
+        fail(b"wave", name, error);
     }
 }
 
-fn draw(hz: u32, fd: i32, name: &[u8]) -> Status {
+fn draw<R: System>(rt: &R, hz: u32, from: &Origin, name: &[u8]) -> Status {
+    let output = Sink::output(rt);
     let mut lines = io::large_buffer();
-    let out = put_header(Out::standard(), &mut lines);
-    let e = stream::draw_all(hz, fd, out, &mut lines);
-    say_unread(e.unread, name);
-    let timed = put_end(e.unread, hz, e.clock, e.out, &mut lines);
-    let unwritten = write_rest(timed, &lines);
+    let out = put_header(&output, Out::standard(&output), &mut lines);
+    let e = stream::draw_all(rt, hz, from, &output, out, &mut lines);
+    say_unread(e.unread, name, from.error());
+    let timed = put_end(e.unread, hz, e.clock, &output, e.out, &mut lines);
+    let unwritten = write_rest(&output, timed, &lines);
     if e.unread | unwritten {
         return Status::Failed;
     }
@@ -114,17 +119,14 @@ fn draw(hz: u32, fd: i32, name: &[u8]) -> Status {
 }
 
 // The trace that a word of the command names.
-fn open(from: usize, hz: u32, word: usize) -> Status {
+fn open<R: System>(rt: &R, from: usize, hz: u32, word: usize) -> Status {
     let mut name = io::buffer();
-    let i = files::input::open_from(from, b"wave", word, &mut name);
-    let fd = i.fd;
+    let i = files::input::open_from(rt, from, b"wave", word, &mut name);
     let n = i.name;
-    if fd < 0 {
+    let Some(input) = i.from else {
         return Status::Failed;
-    }
-    let s = draw(hz, fd, &name[..n]);
-    libc::close(fd);
-    s
+    };
+    draw(rt, hz, &input, &name[..n])
 }
 
 // A clock in Hz, or 0 where a number is none.
@@ -143,31 +145,32 @@ fn rate(n: Number) -> u32
 }
 
 // The clock that the first word names.
-fn first_word(from: usize) -> u32 {
+fn first_word<R: System>(rt: &R, from: usize) -> u32 {
     let mut word = io::buffer();
-    let n = files::command::named_word(from, 0, &mut word);
+    let n = files::command::named_word(rt, from, 0, &mut word);
     rate(text::number::parse_number(&word[..n]))
 }
 
-fn start(from: usize, c: Command) -> Status {
+fn start<R: System>(rt: &R, from: usize, c: Command) -> Status {
     if c.option {
-        let hz = first_word(from);
+        let hz = first_word(rt, from);
         if hz == 0 {
             say(b"wave", b"the clock is not 1 to 4294967295 Hz\n");
             return Status::Failed;
         }
-        return open(from, hz, 1);
+        return open(rt, from, hz, 1);
     }
     if c.words > 1 {
         say(b"wave", b"too many arguments\n");
         return Status::Failed;
     }
-    open(from, 16777216, 0)
+    open(rt, from, 16777216, 0)
 }
 
 // The command, whose words begin at an argument.
-pub fn run(from: usize) -> Status {
+pub fn run<R: System>(rt: &R, from: usize) -> Status {
     let c = files::command::read_from(
+        rt,
         from,
         b"wave",
         b"--clock",
@@ -197,5 +200,5 @@ Exit status: 0 drawn to the end, 1 the trace stopped, 2 could not be done.
     if !c.go {
         return worse(c.wrong, Status::Done);
     }
-    start(from, c)
+    start(rt, from, c)
 }

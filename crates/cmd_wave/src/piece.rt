@@ -5,6 +5,7 @@ ghost use Rattle.console.specs.Output.{Gives};
 ghost use Rattle.cmd_wave.specs.Piece.{over, step_told, rebased, Draws};
 
 use console::output::{Out, put_line};
+use files::system::Sink;
 use tool_wave::vcd::step_text;
 use tool_wave::{Outcome, Turned, Waves, go_on};
 
@@ -28,12 +29,12 @@ fn over(o: Outcome) -> bool
 }
 
 // Ruled out: a change that is not drawn; the text of the change before.
-fn put_step(hz: u32, out: Out, buf: &mut [u8], told: Outcome) -> Out
+fn put_step(hz: u32, to: &Sink, out: Out, buf: &mut [u8], told: Outcome) -> Out
     ensures { Gives out buf.old (step_told hz told) result buf.new }
 {
     match told {
         Outcome::Nothing => out,
-        Outcome::Drawn(step) => put_line(out, buf, step_text(hz, step)),
+        Outcome::Drawn(step) => put_line(to, out, buf, step_text(hz, step)),
         Outcome::Stopped(_) => out,
         Outcome::Ended => out,
     }
@@ -54,7 +55,7 @@ pub fn rebased(s: Waves) -> Waves
 
 // Turn after turn, until a piece has no more to draw or a write failed.
 // Ruled out: a change left out, drawn twice or out of order; one drawn behind a stop.
-pub fn draw(hz: u32, s: Waves, out: Out, buf: &mut [u8], bytes: &[u8]) -> Went
+pub fn draw(hz: u32, s: Waves, to: &Sink, out: Out, buf: &mut [u8], bytes: &[u8]) -> Went
     ensures { Draws hz bytes.now s out buf.old result buf.new }
 {
     let mut now = Turned {
@@ -66,7 +67,7 @@ pub fn draw(hz: u32, s: Waves, out: Out, buf: &mut [u8], bytes: &[u8]) -> Went
     while turns > 0 {
         now = go_on(now.state, bytes);
         let told = now.outcome;
-        given = put_step(hz, given, buf, told);
+        given = put_step(hz, to, given, buf, told);
         if over(told) | given.failed {
             return Went {
                 turned: now,

@@ -3,7 +3,9 @@ use crate::ending::wants;
 use crate::piece::{Went, draw, rebased};
 use console::input::{Source, more};
 use console::output::{Out, flush};
+use files::origin::Origin;
 use files::pieces::counted;
+use files::system::{Sink, System};
 use tool_wave::{Outcome, Turned};
 
 // The input, and where the drawing stands.
@@ -25,21 +27,29 @@ pub struct End {
 }
 
 // What waits to be written does not wait for more to be read where that may take long.
-fn before_read(plain: bool, out: Out, buf: &[u8]) -> Out {
+fn before_read(plain: bool, to: &Sink, out: Out, buf: &[u8]) -> Out {
     if plain {
         return out;
     }
-    flush(out, buf)
+    flush(to, out, buf)
 }
 
 // Reads once, and draws what is there.
-fn turn(hz: u32, d: Drawing, buf: &mut [u8], lines: &mut [u8]) -> Drawing {
+fn turn<R: System>(
+    rt: &R,
+    hz: u32,
+    from: &Origin,
+    to: &Sink,
+    d: Drawing,
+    buf: &mut [u8],
+    lines: &mut [u8],
+) -> Drawing {
     let source = d.source;
     let w = d.went;
     let t = w.turned;
     let s = t.state;
-    let out = before_read(source.plain, w.out, lines);
-    let now = more(source, buf, s.at);
+    let out = before_read(source.plain, to, w.out, lines);
+    let now = more(rt, from, source, buf, s.at);
     if now.failed {
         return Drawing {
             source: now,
@@ -49,7 +59,7 @@ fn turn(hz: u32, d: Drawing, buf: &mut [u8], lines: &mut [u8]) -> Drawing {
     let n = now.total;
     Drawing {
         source: now,
-        went: draw(hz, rebased(s), out, lines, &buf[..n]),
+        went: draw(hz, rebased(s), to, out, lines, &buf[..n]),
     }
 }
 
@@ -70,11 +80,18 @@ fn ended(d: Drawing) -> End {
     }
 }
 
-// Draws what comes from a descriptor. What is left in the buffer for lines is still to be written.
-pub fn draw_all(hz: u32, fd: i32, out: Out, lines: &mut [u8]) -> End {
+// Draws what comes from an origin. What is left in the buffer for lines is still to be written.
+pub fn draw_all<R: System>(
+    rt: &R,
+    hz: u32,
+    from: &Origin,
+    to: &Sink,
+    out: Out,
+    lines: &mut [u8],
+) -> End {
     let mut buf = io::large_buffer();
     let mut now = Drawing {
-        source: Source::of(fd),
+        source: Source::of(from),
         went: Went {
             turned: Turned {
                 state: tool_wave::start(),
@@ -85,7 +102,7 @@ pub fn draw_all(hz: u32, fd: i32, out: Out, lines: &mut [u8]) -> End {
     };
     let mut turns = u64::MAX;
     while turns > 0 {
-        now = turn(hz, now, &mut buf, lines);
+        now = turn(rt, hz, from, to, now, &mut buf, lines);
         let source = now.source;
         let e = ended(now);
         let told = e.told;

@@ -1,6 +1,6 @@
 // Finds a record of a trace by its number, with an index: the command `find` of a program.
 #![tactic(auto)]
 
-fn main() {
-    cmd_find::run(1);
+fn main(rt: HostRuntime) {
+    cmd_find::run(&rt, 1);
 }

@@ -1,6 +1,6 @@
 // Makes an index of a trace, or extends one: the command `index` of a program.
 #![tactic(auto)]
 
-fn main() {
-    cmd_index::run(1);
+fn main(rt: HostRuntime) {
+    cmd_index::run(&rt, 1);
 }

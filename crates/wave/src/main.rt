@@ -1,6 +1,6 @@
 // Draws a trace as a VCD file: the command `wave` of a program.
 #![tactic(auto)]
 
-fn main() {
-    cmd_wave::run(1);
+fn main(rt: HostRuntime) {
+    cmd_wave::run(&rt, 1);
 }
