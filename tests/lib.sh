@@ -32,13 +32,13 @@ same() { # WHAT GOT EXPECTED
     if [ "$2" = "$3" ]; then pass; else fail "$1: got '$2', expected '$3'"; fi
 }
 
-# The programs that people use: all but those of cases.
+# The programs that people use: all but those of cases. `qsm`, which has the commands under one name, is made by `command/build`.
 programs() { # TREE
     local main name
     for main in "$1"/crates/*/src/main.rt; do
         name=${main#"$1/crates/"}
         name=${name%%/*}
-        [[ $name == cases_* ]] || echo "$name"
+        [[ $name == cases_* || $name == *_main ]] || echo "$name"
     done
 }
 
