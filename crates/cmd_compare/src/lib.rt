@@ -8,7 +8,6 @@ use files::message::{fail, say};
 use files::origin::Origin;
 use files::system::{Sink, System};
 use piece::End;
-use std::io::Error;
 use stream::pass;
 use verdict::{status_of, status_shown, to_show, verdict_line};
 
@@ -19,9 +18,6 @@ mod step;
 mod stream;
 mod tally;
 mod verdict;
-
-// The system's number of the error of what has no places, as a pipe.
-const NO_PLACE: i32 = 29;
 
 // What a pass could not do.
 fn say_end(end: End, a: &Origin, b: &Origin) {
@@ -47,12 +43,10 @@ fn say_again(end: End, a: &Origin, b: &Origin) {
     }
 }
 
-// Whether both files are read from their starts; a pipe has none.
-fn rewound<R: System>(rt: &R, a: &Origin, b: &Origin) -> bool {
-    if !a.go_to(rt, 0) {
-        return false;
-    }
-    b.go_to(rt, 0)
+// Both files are read from their starts; a pipe has none.
+fn rewound(a: &Origin, b: &Origin) -> std::io::Result<()> {
+    a.rewind()?;
+    b.rewind()
 }
 
 // The last write, and the status that it leaves.
@@ -73,12 +67,8 @@ fn show_all<R: System>(
     lines: &mut [u8],
     s: Status,
 ) -> Status {
-    if !rewound(rt, a, b) {
-        fail(
-            b"compare",
-            b"a log, read again",
-            Error::from_raw_os_error(NO_PLACE),
-        );
+    if let Err(e) = rewound(a, b) {
+        fail(b"compare", b"a log, read again", e);
         return finish(to, out, lines, Status::Failed);
     }
     let t = pass(rt, true, a, b, to, out, lines);
@@ -111,7 +101,7 @@ fn opened<R: System>(rt: &R, a: &Origin, b: &Origin) -> Status {
         );
         return Status::Failed;
     }
-    if !rewound(rt, a, b) {
+    if rewound(a, b).is_err() {
         say(
             b"compare",
             b"it reads its files twice, so it can't take a pipe\n",

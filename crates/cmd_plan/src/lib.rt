@@ -151,6 +151,8 @@ fn asked<R: System>(rt: &R, w: Wanted, input: usize, output: usize) -> Status {
         say(b"plan", b"input too long\n");
         return Status::Failed;
     }
+    // It is closed before an output is opened, which may be the same FIFO.
+    drop(from);
     let reading = t.reading;
     let r = reading.finished();
     if r.fault != 0 {

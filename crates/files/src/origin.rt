@@ -7,6 +7,9 @@ use std::fs::File;
 use std::io::{Error, ErrorKind, Read, Seek, SeekFrom};
 use std::rt::Stdin;
 
+// The system's number of the error of what has no places, as a pipe.
+const NO_PLACE: i32 = 29;
+
 // It keeps why its last read that failed did, and its place.
 #[derive(Drop)]
 pub struct Origin {
@@ -55,9 +58,29 @@ impl Origin {
         self.plain
     }
 
-    // How many bytes of it are read, where it has places; else 0.
+    // Its place, where it has places; else 0. Standard input's is how many bytes are read of it.
     pub fn place(&self) -> u64 {
-        if self.plain { self.place.get() } else { 0 }
+        if !self.plain {
+            return 0;
+        }
+        match self.file.get() {
+            Some(f) => {
+                let mut file = f;
+                file.seek(SeekFrom::Current(0)).unwrap_or(0)
+            }
+            None => self.place.get(),
+        }
+    }
+
+    // Goes to the start of a file, or says why it can't: a pipe has none, nor has standard input here.
+    pub fn rewind(&self) -> std::io::Result<()> {
+        let Some(f) = self.file.get() else {
+            return Err(Error::from_raw_os_error(NO_PLACE));
+        };
+        let mut file = f;
+        file.seek(SeekFrom::Start(0))?;
+        self.place.set(0);
+        Ok(())
     }
 
     // Why the last read that failed did.

@@ -12,6 +12,11 @@ use files::words::{join, same};
 use std::fs::File;
 use std::io::{Error, ErrorKind};
 
+// Numbers of the system's errors: every name is taken, and there is no room for one.
+const EXISTS: i32 = 17;
+
+const INVALID: i32 = 22;
+
 // What is written, or nothing; how long the name of the file is that is made first, or 0 where there is none; and that of the file whose place it takes.
 #[derive(Drop)]
 pub struct Target {
@@ -136,6 +141,9 @@ fn begin_names<R: System>(rt: &R) -> u32 {
 
 // A file of its own, with the mode of a new one, under a name that no other file has.
 fn fresh<R: System>(rt: &R, name: &mut [u8]) -> std::io::Result<Sink> {
+    if name.len() < 6 {
+        return Err(Error::from_raw_os_error(INVALID));
+    }
     let mut number = begin_names(rt);
     let mut turns: u32 = 238328;
     while turns > 0 {
@@ -151,7 +159,7 @@ fn fresh<R: System>(rt: &R, name: &mut [u8]) -> std::io::Result<Sink> {
         number = number.wrapping_add(1);
         turns -= 1;
     }
-    Err(Error::from(ErrorKind::AlreadyExists))
+    Err(Error::from_raw_os_error(EXISTS))
 }
 
 // Makes a file in the folder of what a path names in the end.
