@@ -1,7 +1,7 @@
 -- Marks given to an output one after the other. Assumes nothing.
-use mathlib.Core.Path.{◌≡◌, refl, sym, ap, subst, ◌∙◌}
+use mathlib.Core.Path.{◌≡◌, refl, subst}
 use mathlib.Core.List.{List, []}
-use Prim.Native.Nat.{ℕ, suc, ◌+◌, ◌*◌}
+use Prim.Native.Nat.{ℕ, ◌+◌, ◌*◌}
 use native.Mathlib.Numerals.{add-one}
 use lib.ListN.{get_or}
 use Rattle.tool_index.specs.Stored.{mark_bytes}
@@ -20,7 +20,7 @@ module _ (lent : List ℕ) (o : Out) (buf : List ℕ) where
         order = refl;
         kept = λ _. refl;
         stopped = λ _. (refl, (refl, refl));
-        same = (refl, refl);
+        same = refl;
         room = refl;
       }
 

@@ -1,5 +1,5 @@
 -- A piece of a trace indexed, and what follows it.
-use Rattle.std.specs.Prelude.{Bool, true, false, cond, List, ℕ, ◌-◌, min, eqb, length}
+use Rattle.std.specs.Prelude.{Bool, cond, List, ℕ, ◌-◌, min, eqb, length}
 use Rattle.tool_index.specs.Laws.{left}
 use Rattle.tool_index.specs.declared.walk.Position.{Position}
 use Rattle.tool_index.specs.declared.index.Indexed.{Indexed}
