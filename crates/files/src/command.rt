@@ -3,14 +3,11 @@ ghost use Rattle.std.specs.Prelude.{◌≡◌, false};
 ghost use Rattle.io.specs.Counts.{IsPrefixLen};
 ghost use Rattle.files.specs.Words.{Expected};
 
-use crate::message::{fail, say, say_of};
+use crate::message::{ERROR, fail, say, say_of};
 use crate::system::{Sink, System};
 use crate::version::print_version;
 use crate::words::{Word, is_option, kind};
 use std::env::FillError;
-
-// Standard error.
-const ERROR: i32 = 2;
 
 // Whether the program goes on, or something was wrong; whether its option is given and the second one, and how many words there are beside options.
 #[derive(Clone, Copy)]

@@ -7,7 +7,7 @@ use std::fmt::Write;
 use std::io::Error;
 
 // Standard error.
-const ERROR: i32 = 2;
+pub const ERROR: i32 = 2;
 
 fn begin(program: &[u8]) {
     io::write_all(ERROR, program);

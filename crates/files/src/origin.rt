@@ -104,6 +104,7 @@ impl Origin {
     }
 
     // One read. A call that a signal interrupts is made again.
+    // Ruled out: more bytes reported than the buffer has.
     pub fn read(&self, buf: &mut [u8]) -> std::io::Result<usize>
         ensures bound { IfOk result (λ n. n ≤ length buf.new) }
     {

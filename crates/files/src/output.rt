@@ -1,4 +1,5 @@
 // Bytes written: to a sink, or to a file that is replaced whole or not at all.
+ghost use Rattle.std.specs.Prelude.{◌≡◌, take};
 ghost use Rattle.io.specs.Counts.{IsPrefixLen};
 
 use crate::message::fail;
@@ -7,7 +8,10 @@ use crate::system::{Sink, System, create, remove, rename};
 use crate::words::join;
 
 // The first n bytes, or all where there are fewer.
-pub fn first(bytes: &[u8], n: usize) -> &[u8] {
+// Ruled out: a byte behind them; one of them left out.
+pub fn first(bytes: &[u8], n: usize) -> &[u8]
+    ensures { result.now ≡ take n bytes.now }
+{
     let some = least(n, bytes.len());
     &bytes[..some]
 }
@@ -42,7 +46,7 @@ pub fn begin<R: System>(rt: &R, program: &[u8], path: &[u8], name: &mut [u8]) ->
 }
 
 // A file that was written takes the place of the one at the path.
-fn placed<R: System>(rt: &R, sink: Sink, name: &[u8], path: &[u8]) -> std::io::Result<()> {
+pub fn placed<R: System>(rt: &R, sink: Sink, name: &[u8], path: &[u8]) -> std::io::Result<()> {
     sink.keep()?;
     rename(rt, name, path)
 }

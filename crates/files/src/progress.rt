@@ -1,11 +1,9 @@
 // How far a program has come with a long input, said where standard error is a terminal.
+use crate::message::ERROR;
 use crate::origin::Origin;
 use crate::system::System;
 use std::io::IsTerminal;
 use std::time::Duration;
-
-// Standard error.
-const ERROR: i32 = 2;
 
 // Whether the last so many bytes up to a place have come past a multiple of the bytes from one message to the next: 256 KiB at first, for an input that
 // takes long, then 4 MiB, then 64 MiB.

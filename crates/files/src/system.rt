@@ -161,6 +161,7 @@ impl Sink {
     }
 
     // One write: how many bytes the system took, or why none.
+    // Ruled out: more bytes reported than were handed on.
     pub fn write_some(&self, bytes: &[u8]) -> std::io::Result<usize>
         ensures bound { IfOk result (λ n. n ≤ length bytes.now) }
     {

@@ -7,12 +7,9 @@ use crate::arguments::{Seen, Verdict};
 use crate::message::{fail, say_of};
 use crate::options::{Kind, kind_of};
 use files::command::{argument, count};
-use files::message::say;
+use files::message::{ERROR, say};
 use files::system::{Sink, System};
 use files::version::print_version;
-
-// Standard error.
-const ERROR: i32 = 2;
 
 // Whether the command goes on, or something was wrong, and its options and words.
 #[derive(Clone, Copy)]

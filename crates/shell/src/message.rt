@@ -2,11 +2,8 @@
 ghost use Rattle.std.specs.Prelude.{◌≡◌, ◌%◌};
 ghost use Rattle.shell.specs.Escapes.{hex_digit, printable, escape};
 
-use files::message::say_error;
+use files::message::{ERROR, say_error};
 use std::io::Error;
-
-// Standard error.
-const ERROR: i32 = 2;
 
 // A digit, in capitals.
 fn hex_digit(n: u8) -> u8

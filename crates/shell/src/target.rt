@@ -4,10 +4,9 @@ ghost use Rattle.io.specs.Counts.{IsPrefixLen};
 ghost use Rattle.shell.specs.Folder.{folder};
 
 use crate::message::fail;
+use files::output::placed;
 use files::pieces::least;
-use files::system::{
-    Sink, System, create, has_places, is_invalid, open_append, path_of, remove, rename,
-};
+use files::system::{Sink, System, create, has_places, is_invalid, open_append, path_of, remove};
 use files::words::{join, same};
 use std::fs::File;
 use std::io::{Error, ErrorKind};
@@ -242,12 +241,6 @@ pub fn begin<R: System>(
             none()
         }
     }
-}
-
-// A file that was written takes the place of another one, or of none.
-fn placed<R: System>(rt: &R, sink: Sink, name: &[u8], path: &[u8]) -> std::io::Result<()> {
-    sink.keep()?;
-    rename(rt, name, path)
 }
 
 // Whether the new file took the place of the old one. Otherwise it is removed, and the old one stands.
