@@ -5,17 +5,18 @@ ghost use Rattle.qspi.specs.model.Queue.{clock};
 ghost use Rattle.qspi.specs.quick.Quiet.{counted_down, before_change, quiet_if, quiet, skipped_if, skipped, plays, at_least_one, until_edge, edge_within};
 
 use crate::entry::Entry;
-use crate::fields::{bits_of, choose_word, cont, minus, spbr, spe};
+use crate::fields::{bits_of, cont, spbr, spe};
 use crate::inputs::miso_of;
 use crate::rounds::LONG;
 use crate::{Pins, Qspi};
+use steps::choose;
 
 // Clocks before the next edge, the delay's end or clock 1.
 fn before_change(running: bool, ready: bool, left: u16) -> u32
     ensures { result ≡ before_change running ready left }
 {
     if running {
-        return minus(left, 1) as u32;
+        return left.saturating_sub(1) as u32;
     }
     if ready { 0 } else { 4294967295 }
 }
@@ -31,7 +32,7 @@ fn less(left: u16, k: u32) -> u16
 fn at_least_one(left: u16) -> u32
     ensures { result ≡ at_least_one left }
 {
-    choose_word(left <= 1, 1, left) as u32
+    choose(left <= 1, 1, left) as u32
 }
 
 impl Entry {

@@ -2,8 +2,9 @@
 ghost use Rattle.std.specs.Prelude.{◌≡◌};
 ghost use Rattle.qspi.specs.model.Entry.{changes, bit_out, mosi_after, pushed, collected_after, started, edge_fallen, ticked, delay_begun, in_delay, delay_over, abandoned, silent};
 
-use crate::fields::{bits_of, choose_bit, choose_word, cont, cpha, minus, pre_delay, spbr};
+use crate::fields::{bits_of, cont, cpha, pre_delay, spbr};
 use crate::registers::Registers;
+use steps::choose;
 
 #[repr(C)]
 #[derive(Clone, Copy)]
@@ -36,14 +37,14 @@ pub(crate) fn changes(cpha: bool, j: u8) -> bool
 pub(crate) fn bit_out(w: u16, n: u16, i: u16) -> bool
     ensures { result ≡ bit_out w n i }
 {
-    (w >> (minus(minus(n, 1), i) % 16)) % 2 == 1
+    (w >> (n.saturating_sub(1).saturating_sub(i) % 16)) % 2 == 1
 }
 
 fn mosi_after(cpha: bool, n: u16, w: u16, j: u8, mosi: bool) -> bool
     ensures { result ≡ mosi_after cpha n w j mosi }
 {
     let i = (j / 2) as u16;
-    choose_bit(changes(cpha, j) & (i < n), bit_out(w, n, i), mosi)
+    choose(changes(cpha, j) & (i < n), bit_out(w, n, i), mosi)
 }
 
 pub(crate) fn pushed(collected: u16, miso: bool) -> u16
@@ -59,7 +60,7 @@ pub(crate) fn pushed(collected: u16, miso: bool) -> u16
 fn collected_after(cpha: bool, j: u8, miso: bool, collected: u16) -> u16
     ensures { result ≡ collected_after cpha j miso collected }
 {
-    choose_word(changes(!cpha, j), pushed(collected, miso), collected)
+    choose(changes(!cpha, j), pushed(collected, miso), collected)
 }
 
 // Clock 1 with this command and transmit word.
@@ -105,7 +106,7 @@ impl Entry {
     pub fn ticked(mut self) -> Entry
         ensures { result ≡ ticked self }
     {
-        self.left = minus(self.left, 1);
+        self.left = self.left.saturating_sub(1);
         self
     }
 
@@ -125,7 +126,7 @@ impl Entry {
     pub fn in_delay(mut self) -> Entry
         ensures { result ≡ in_delay self }
     {
-        self.left = minus(self.left, 1);
+        self.left = self.left.saturating_sub(1);
         self.selecting = self.selecting & cont(self.command);
         self
     }

@@ -3,13 +3,14 @@ ghost use Rattle.std.specs.Prelude.{◌≡◌};
 ghost use Rattle.qspi.specs.quick.Falls.{change_by, mosi_since, reads_by, collected_since, edges_fallen};
 
 use crate::entry::{Entry, bit_out, changes, pushed};
-use crate::fields::{bits_of, choose_bit, cpha, spbr};
+use crate::fields::{bits_of, cpha, spbr};
+use steps::choose;
 
 // The last edge up to j on which MOSI changes.
 fn change_by(cpha: bool, j: u8) -> u8
     ensures { result ≡ change_by cpha j }
 {
-    steps::choose(changes(cpha, j), j, steps::one_less(j))
+    choose(changes(cpha, j), j, j.saturating_sub(1))
 }
 
 // MOSI after the edges past edge `from` up to j.
@@ -17,7 +18,7 @@ fn mosi_since(cpha: bool, n: u16, w: u16, from: u8, j: u8, mosi: bool) -> bool
     ensures { result ≡ mosi_since cpha n w from j mosi }
 {
     let at = change_by(cpha, j);
-    choose_bit(from < at, bit_out(w, n, (at / 2) as u16), mosi)
+    choose(from < at, bit_out(w, n, (at / 2) as u16), mosi)
 }
 
 // Edges up to j on which MISO is read.

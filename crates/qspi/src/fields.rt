@@ -1,28 +1,9 @@
 // Fields of the queue's registers and of a command byte, and what they mean in bits and clocks.
-ghost use Rattle.std.specs.Prelude.{◌≡◌, cond, ◌-◌};
+ghost use Rattle.std.specs.Prelude.{◌≡◌};
 ghost use Rattle.steps.specs.Bits.{bit};
 ghost use Rattle.qspi.specs.model.Fields.{mstr, cpol, cpha, spbr, spe, wren, halt, cont, zero_means, bits_of, pre_delay, delay_after};
 
-// Ruled out: the choice the other way round; always the first.
-pub fn choose_word(first: bool, a: u16, b: u16) -> u16
-    ensures { result ≡ cond first a b }
-{
-    if first { a } else { b }
-}
-
-// Ruled out: the choice the other way round; always the first.
-pub fn choose_bit(first: bool, a: bool, b: bool) -> bool
-    ensures { result ≡ cond first a b }
-{
-    if first { a } else { b }
-}
-
-// Ruled out: a wrapped difference; the operands swapped.
-pub fn minus(a: u16, b: u16) -> u16
-    ensures { result ≡ a - b }
-{
-    if b < a { a - b } else { 0 }
-}
+use steps::choose;
 
 // Ruled out: another bit; the bit inverted.
 pub fn bit_0(x: u8) -> bool
@@ -91,7 +72,7 @@ pub fn cont(command: u8) -> bool
 fn zero_means(other: u16, x: u16) -> u16
     ensures { result ≡ zero_means other x }
 {
-    choose_word(x == 0, other, x)
+    choose(x == 0, other, x)
 }
 
 // Bits n of an entry.
@@ -99,7 +80,7 @@ fn zero_means(other: u16, x: u16) -> u16
 pub fn bits_of(spcr0: u16, command: u8) -> u16
     ensures { result ≡ bits_of spcr0 command }
 {
-    choose_word(command / 64 % 2 == 1, zero_means(16, spcr0 / 0x400 % 16), 8)
+    choose(command / 64 % 2 == 1, zero_means(16, spcr0 / 0x400 % 16), 8)
 }
 
 // Pre-delay p in clocks.
@@ -107,7 +88,7 @@ pub fn bits_of(spcr0: u16, command: u8) -> u16
 pub fn pre_delay(spcr0: u16, spcr1: u16, command: u8) -> u16
     ensures { result ≡ pre_delay spcr0 spcr1 command }
 {
-    choose_word(
+    choose(
         command / 16 % 2 == 1,
         zero_means(128, spcr1 / 256 % 128),
         spcr0 % 256,
@@ -119,7 +100,7 @@ pub fn pre_delay(spcr0: u16, spcr1: u16, command: u8) -> u16
 pub fn delay_after(spcr1: u16, command: u8) -> u16
     ensures { result ≡ delay_after spcr1 command }
 {
-    choose_word(
+    choose(
         command / 32 % 2 == 1,
         zero_means(8192, 32 * (spcr1 % 256)),
         17,

@@ -3,7 +3,8 @@ ghost use Rattle.std.specs.Prelude.{◌≡◌};
 ghost use Rattle.qspi.specs.model.Outputs.{enabled, sck, mosi, pcs, asks};
 
 use crate::Qspi;
-use crate::fields::{choose_bit, cpol, spe};
+use crate::fields::{cpol, spe};
+use steps::choose;
 
 impl Qspi {
     // Ruled out: always true; the bit inverted.
@@ -18,7 +19,7 @@ impl Qspi {
         ensures { result ≡ sck self }
     {
         let rest = cpol(self.registers.spcr0);
-        choose_bit(self.entry.edges % 2 == 1, !rest, rest)
+        choose(self.entry.edges % 2 == 1, !rest, rest)
     }
 
     // Ruled out: the bit inverted; always false.

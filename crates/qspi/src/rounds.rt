@@ -4,10 +4,9 @@ ghost use Rattle.steps.specs.Iterate.{iterate};
 ghost use Rattle.qspi.specs.model.Queue.{clock};
 
 use crate::entry::Entry;
-use crate::fields::{bits_of, delay_after, minus, spbr, spe, wren};
+use crate::fields::{bits_of, delay_after, spbr, spe, wren};
 use crate::queue::wrap_to;
 use crate::{Pins, Qspi};
-use steps::of_u32::least;
 
 // In a hold of fewer clocks a round is not looked for.
 pub(crate) const LONG: u32 = 4096;
@@ -26,10 +25,7 @@ impl Entry {
     fn until_last(self, spcr0: u16) -> u32
         ensures { result ≤ 8160 }
     {
-        let edges = minus(
-            bits_of(spcr0, self.command) * 2,
-            (self.edges % 32 + 1) as u16,
-        );
+        let edges = (bits_of(spcr0, self.command) * 2).saturating_sub((self.edges % 32 + 1) as u16);
         (edges as u32) * (spbr(spcr0) as u32)
     }
 
@@ -68,7 +64,7 @@ impl Qspi {
         ensures { (1 ≤ result) × (result ≤ n) }
     {
         if (LONG < n) & wren(self.registers.spcr2) {
-            return least(self.until_start(), n);
+            return n.min(self.until_start());
         }
         n
     }

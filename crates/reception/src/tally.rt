@@ -4,7 +4,6 @@ ghost use Rattle.steps.specs.Bits.{digit};
 ghost use Rattle.reception.specs.Tally.{up_to, tally_of, with_figure, with_arrival};
 
 use crate::arrival::Arrival;
-use steps::of_u8::larger;
 
 // How many words there are, how many of them are noisy, and the worst figure.
 #[derive(Clone, Copy)]
@@ -46,7 +45,7 @@ impl Tally {
         Tally {
             words: one_more(self.words),
             noisy: one_more_if(0 < figure, self.noisy),
-            worst: larger(self.worst, figure),
+            worst: self.worst.max(figure),
         }
     }
 

@@ -47,5 +47,5 @@ impl Framer {
 fn left_after(early: bool, left: u8) -> u8
     ensures { result ≡ cond early (left - 1) left }
 {
-    if early { steps::one_less(left) } else { left }
+    if early { left.saturating_sub(1) } else { left }
 }

@@ -90,7 +90,7 @@ impl Framer {
             }
             16 => {
                 self.rt = rt;
-                self.left = steps::one_less(self.left);
+                self.left = self.left.saturating_sub(1);
                 self.moved = false;
                 self
             }

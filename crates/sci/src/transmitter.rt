@@ -82,7 +82,7 @@ fn new_left(begins: bool, m: bool, left: u8) -> u8
     if begins {
         control::frame_samples(m)
     } else {
-        steps::one_less(left)
+        left.saturating_sub(1)
     }
 }
 
@@ -140,7 +140,7 @@ impl Transmitter {
     fn shifted(mut self) -> Transmitter
         ensures { result ≡ shifted self }
     {
-        self.left = steps::one_less(self.left);
+        self.left = self.left.saturating_sub(1);
         self.shift = passed(self.left % 16 == 0, self.shift);
         self
     }

@@ -1,47 +1,36 @@
-// What both halves of the module need: bytes of a register word and the write of it by its byte lanes, one meaning of
-// 'so many times' (`specs/Iterate`, which has no code of its own), and the lesser and larger of two numbers, by their width.
+// What both halves of the module need: bytes of a register word and the write of it by its byte lanes, and one meaning of
+// 'so many times' (`specs/Iterate`, which has no code of its own).
 #![tactic(auto)]
 
-ghost use Rattle.std.specs.Prelude.{◌≡◌, cond, ◌-◌};
+ghost use Rattle.std.specs.Prelude.{◌≡◌, cond};
 ghost use Rattle.steps.specs.Bits.{upper_byte, lower_byte, word, merge};
-
-pub mod of_u32;
-pub mod of_u8;
-pub mod of_usize;
 
 // Ruled out: the lower byte; the word undivided.
 pub fn upper_byte(w: u16) -> u8
     ensures { result ≡ upper_byte w }
 {
-    (w / 256 % 256) as u8
+    w.to_be_bytes()[0]
 }
 
 // Ruled out: the upper byte; a low bit dropped.
 pub fn lower_byte(w: u16) -> u8
     ensures { result ≡ lower_byte w }
 {
-    (w % 256) as u8
+    w.to_be_bytes()[1]
 }
 
 // Ruled out: little-endian order; the upper byte dropped.
 pub fn word(h: u8, l: u8) -> u16
     ensures { result ≡ word h l }
 {
-    (h as u16) * 256 + (l as u16)
+    u16::from_be_bytes([h, l])
 }
 
 // Ruled out: the choice the other way round; always the first.
-pub fn choose(first: bool, a: u8, b: u8) -> u8
+pub fn choose<T: Copy>(first: bool, a: T, b: T) -> T
     ensures { result ≡ cond first a b }
 {
     if first { a } else { b }
-}
-
-// Ruled out: a count that goes below 0; one that stands still.
-pub fn one_less(n: u8) -> u8
-    ensures { result ≡ n - 1 }
-{
-    if n == 0 { 0 } else { n - 1 }
 }
 
 // A register word after a write that touches its upper byte, its lower byte, or both.

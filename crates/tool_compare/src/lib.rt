@@ -8,7 +8,6 @@ ghost use Rattle.tool_compare.specs.Compare.{differing, listed, compared, compar
 
 use answers::{SIZES, fields_of};
 use kinds::{kind_of, mixed, stride_of};
-use steps::of_usize::least;
 
 mod claims;
 pub mod kinds;
@@ -109,7 +108,7 @@ fn by_fields<'a>(
     ensures { Reports (compared (take k fields) a.now b.now list.old) a.entry.ref_ptr b.entry.ref_ptr list.new count.new refusal.new result.now result.ref_ptr }
 {
     *count = 0;
-    let start = least(a.len(), b.len());
+    let start = a.len().min(b.len());
     if a.len() % bytes != 0 {
         *refusal = 6;
         return &a[start..start];
@@ -118,7 +117,7 @@ fn by_fields<'a>(
         *refusal = 6;
         return &a[start..start];
     }
-    let n = least(a.len() / bytes, b.len() / bytes);
+    let n = (a.len() / bytes).min(b.len() / bytes);
     let differ = differences(bytes, a, b, n);
     if list.len() / 2 < differ {
         *refusal = 7;
@@ -149,7 +148,7 @@ pub fn compare_as<'a>(
     if mixed(kind, a) | mixed(kind, b) {
         *count = 0;
         *refusal = 5;
-        let start = least(a.len(), b.len());
+        let start = a.len().min(b.len());
         return &a[start..start];
     }
     by_fields(fields_of(kind), stride_of(kind), a, b, list, count, refusal)
@@ -192,7 +191,7 @@ pub fn compare_numbers_as<'a>(kind: u8, a: &'a [u8], b: &'a [u8], list: &mut [u6
         count,
         refusal,
         second: (refusal == 0) & (a.len() < b.len()),
-        start: least(a.len(), b.len()),
+        start: a.len().min(b.len()),
         length: rest.len(),
     }
 }

@@ -5,7 +5,6 @@ ghost use Rattle.tool_index.specs.Walk.{past, largest, Sound};
 ghost use Rattle.tool_index.specs.Marks.{spacing, most, marks_for, marks_from, room, held, mark_for, report, indexed_from, built, extended_from, extended, gone_on};
 
 use crate::walk::{Position, Walked, refusal_at, walk};
-use steps::of_usize::least;
 
 // A mark is made for every so many records, and there are at most so many marks.
 pub const SPACING: u64 = 256;
@@ -29,7 +28,7 @@ pub struct Indexed {
 fn room(lent: usize) -> usize
     ensures { result ≡ min (lent / 2) most }
 {
-    least(lent / 2, MOST)
+    (lent / 2).min(MOST)
 }
 
 // How many marks so many records have.
@@ -121,11 +120,11 @@ pub fn build(trace: &[u8], lent: &mut [u64]) -> Indexed
 pub fn mark_for(lent: &[u64], count: usize, n: u64) -> Position
     ensures { result ≡ mark_for lent.now (held lent.now count) n }
 {
-    let there = least(count, room(lent.len()));
+    let there = count.min(room(lent.len()));
     if there == 0 {
         return Position::start();
     }
-    let k = least((n / SPACING) as usize, there - 1);
+    let k = ((n / SPACING) as usize).min(there - 1);
     let i = 2 * k;
     Position {
         number: SPACING * (k as u64),
@@ -139,7 +138,7 @@ pub fn mark_for(lent: &[u64], count: usize, n: u64) -> Position
 pub fn extend(trace: &[u8], lent: &mut [u64], count: usize) -> Indexed
     ensures { (lent.new ≡ (extended trace.now lent.old count).list) × (result ≡ (extended trace.now lent.old count).given) }
 {
-    let there = least(count, room(lent.len()));
+    let there = count.min(room(lent.len()));
     let last = mark_for(lent, count, u64::MAX);
     let length = trace.len() as u64;
     if last.possible(length) {
@@ -154,7 +153,7 @@ pub fn extend(trace: &[u8], lent: &mut [u64], count: usize) -> Indexed
 pub fn go_on(from: Position, piece: &[u8], lent: &mut [u64], count: usize) -> Indexed
     ensures { (lent.new ≡ (gone_on from piece.now lent.old count).list) × (result ≡ (gone_on from piece.now lent.old count).given) }
 {
-    let there = least(count, room(lent.len()));
+    let there = count.min(room(lent.len()));
     let length = piece.len() as u64;
     if from.possible(u64::MAX - length) {
         return index_from(from, piece, lent, there);

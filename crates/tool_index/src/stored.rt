@@ -3,8 +3,6 @@ ghost use Rattle.std.specs.Prelude.{◌≡◌, ◌+◌, ◌≤◌, length};
 ghost use Rattle.trace.specs.Trace.{word_at};
 ghost use Rattle.tool_index.specs.Stored.{of_words, number_at, mark_bytes, stored_in, decoded};
 
-use steps::of_usize::least;
-
 // The bytes of a mark.
 pub const BYTES: usize = 16;
 
@@ -79,7 +77,7 @@ pub fn decode(bytes: &[u8], lent: &mut [u64]) -> usize
     ensures value { result ≡ stored_in bytes.now lent.old }
     ensures lent_after { lent.new ≡ decoded bytes.now lent.old result }
 {
-    let n = least(bytes.len() / BYTES, lent.len() / 2);
+    let n = (bytes.len() / BYTES).min(lent.len() / 2);
     let mut i: usize = 0;
     while i < n {
         lent[2 * i] = number_at(bytes, 16 * i);

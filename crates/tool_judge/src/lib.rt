@@ -11,7 +11,6 @@ pub mod numbers;
 
 use answers::{Field, field_at};
 use qsm::state::Module;
-use steps::of_usize::least;
 use trace::refusals::refusal_of;
 use trace::{ANSWER_LENGTH, Parsed};
 
@@ -127,7 +126,7 @@ pub fn run<'a>(m: Module, trace: &'a [u8], log: &'a [u8], last: bool) -> Ran
                 ours,
             };
         };
-        let here = least(ANSWER_LENGTH, log.len() - passed);
+        let here = ANSWER_LENGTH.min(log.len() - passed);
         let full = waits(last, here);
         if full {
             return Ran {

@@ -3,7 +3,6 @@ ghost use Rattle.std.specs.Prelude.{◌≡◌, cond, ◌+◌, ◌-◌, ◌^◌, 
 ghost use Rattle.tool_lines.specs.Noise.{silent, with_figure, added, heard, unheard};
 
 use crate::line::NEWLINE;
-use steps::of_u8::larger;
 
 // The total of some figures, and the worst of them.
 #[repr(C)]
@@ -47,7 +46,7 @@ impl Noise {
     {
         Noise {
             total: summed(self.total, figure),
-            worst: larger(self.worst, figure),
+            worst: self.worst.max(figure),
         }
     }
 }

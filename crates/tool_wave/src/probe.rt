@@ -7,7 +7,6 @@ ghost use Rattle.tool_wave.specs.Probe.{started, view_of, ends, tick, restarted,
 use crate::view::{Kept, View};
 use qsm::event::{Access, Event};
 use qsm::state::Module;
-use steps::of_u32::least;
 use until_change::{number, room, shown, until_change, wires, within};
 
 // The clocks since the start of the trace, which a reset leaves; whether a record has been played, and a hold; RXD as the last hold gave it;
@@ -177,6 +176,6 @@ impl Probe {
             return 0;
         }
         let n = number(until_change(device, device.inputs, self.rxd));
-        within(room(device.clock), least(before(n), q.quiet(wires(device))))
+        within(room(device.clock), before(n).min(q.quiet(wires(device))))
     }
 }

@@ -13,7 +13,6 @@ use qsm::request::request_of;
 use qsm::state::Module;
 use qspi::Pins;
 use sci::serial::Sci;
-use steps::of_u32::{larger, least};
 
 // The longest hold.
 const LONGEST: u32 = 4294967295;
@@ -97,7 +96,7 @@ fn steady(m: Module, rxd: bool) -> u32
 {
     let qspi = m.qspi;
     let sci = m.sci;
-    larger(1, least(qspi.quiet(wires(m)), serial_steady(sci, rxd)))
+    qspi.quiet(wires(m)).min(serial_steady(sci, rxd)).max(1)
 }
 
 fn held(mut m: Module, pins: u8) -> Module

@@ -6,7 +6,7 @@ use Rattle.tool_compare.proofs.compare_as.Goals as goal
 pub returns-then-mixed : goal.returns-then-mixed
 returns-then-mixed c =
     let args = c.args in
-    refuses _ args.b.now _ args.a.ref_ptr args.b.ref_ptr c.least-start.ensures
+    refuses _ args.b.now _ args.a.ref_ptr args.b.ref_ptr c.min-start.ensures
     (other_kind_holds _ _ _ _ (rw (c.mixed.ensures, c.mixed-2.ensures) at c.if-mixed.true))
 
 pub by_fields-requires : goal.by_fields-requires

@@ -14,20 +14,20 @@ pub returns-then-full : goal.returns-then-full
 returns-then-full c =
     let loop = c.loop-at in
     at_full _ _ _ _ _ _ _ _ _ _ loop.invariant c.loop-at-test.true c.parse-p.result _ _ c.parse-p.ensures c.in-Record.is
-    c.least-here.result c.least-here.ensures c.waits-full.result c.waits-full.ensures c.if-full.true
+    c.min-here.result c.min-here.ensures c.waits-full.result c.waits-full.ensures c.if-full.true
 
 pub returns-then-answer-eq10 : goal.returns-then-answer-eq10
 returns-then-answer-eq10 c =
     let loop = c.loop-at in
     at_limit _ _ _ _ _ _ _ _ _ _ loop.invariant c.loop-at-test.true c.parse-p.result _ _ c.parse-p.ensures c.in-Record.is
-    c.least-here.result c.least-here.ensures c.waits-full.result c.waits-full.ensures
+    c.min-here.result c.min-here.ensures c.waits-full.result c.waits-full.ensures
     c.step-s.result c.if-full.false c.step-s.ensures c.if-answer-eq10.true
 
 pub loop-at-preserved : goal.loop-at-preserved
 loop-at-preserved c =
     let loop = c.loop-at in
     goes_on _ _ _ _ _ _ _ _ _ _ loop.invariant c.loop-at-test.true c.parse-p.result _ _ c.parse-p.ensures c.in-Record.is
-    c.least-here.result c.least-here.ensures c.waits-full.result c.waits-full.ensures
+    c.min-here.result c.min-here.ensures c.waits-full.result c.waits-full.ensures
     c.step-s.result c.if-full.false c.step-s.ensures c.told-verdict.result c.answer_bytes-ours.result c.if-answer-eq10.false
     c.answer_bytes-ours.ensures c.told-verdict.ensures
 

@@ -3,4 +3,4 @@ use Rattle.qspi.proofs.entry.collected_after.Goals as goal
 
 pub returns : goal.returns
 unfolding collected_after
-returns c = rw (c.choose_word.ensures, c.pushed.ensures, c.changes.ensures)
+returns c = rw (c.choose.ensures, c.pushed.ensures, c.changes.ensures)

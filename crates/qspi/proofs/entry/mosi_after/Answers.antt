@@ -3,4 +3,4 @@ use Rattle.qspi.proofs.entry.mosi_after.Goals as goal
 
 pub returns : goal.returns
 unfolding mosi_after
-returns c = rw (c.choose_bit.ensures, c.bit_out.ensures, c.changes.ensures)
+returns c = rw (c.choose.ensures, c.bit_out.ensures, c.changes.ensures)

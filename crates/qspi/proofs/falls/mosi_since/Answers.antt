@@ -3,4 +3,4 @@ use Rattle.qspi.proofs.falls.mosi_since.Goals as goal
 
 pub returns : goal.returns
 unfolding mosi_since
-returns c = rw (c.choose_bit.ensures, c.bit_out.ensures, c.change_by-at.ensures)
+returns c = rw (c.choose.ensures, c.bit_out.ensures, c.change_by-at.ensures)

@@ -3,4 +3,4 @@ use Rattle.qspi.proofs.fields.delay_after.Goals as goal
 
 pub returns : goal.returns
 unfolding delay_after
-returns c = rw (c.choose_word.ensures, c.zero_means.ensures)
+returns c = rw (c.choose.ensures, c.zero_means.ensures)

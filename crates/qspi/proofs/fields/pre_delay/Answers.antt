@@ -3,4 +3,4 @@ use Rattle.qspi.proofs.fields.pre_delay.Goals as goal
 
 pub returns : goal.returns
 unfolding pre_delay
-returns c = rw (c.choose_word.ensures, c.zero_means.ensures)
+returns c = rw (c.choose.ensures, c.zero_means.ensures)

@@ -4,4 +4,4 @@ pub returns-then-begins : goal.returns-then-begins
 returns-then-begins c = rw (c.frame_samples.ensures, c.if-begins.true)
 
 pub returns-else-begins : goal.returns-else-begins
-returns-else-begins c = rw (c.one_less.ensures, c.if-begins.false)
+returns-else-begins c = rw (c.saturating_sub.ensures, c.if-begins.false)

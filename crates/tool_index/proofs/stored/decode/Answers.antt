@@ -5,7 +5,7 @@ use Rattle.tool_index.proofs.Decoding.{none_yet, one_more}
 use Rattle.tool_index.proofs.stored.decode.Goals as goal
 
 pub loop-i-init : goal.loop-i-init
-loop-i-init c = (omega arith, refl, c.least-n.ensures, none_yet _ _)
+loop-i-init c = (omega arith, refl, c.min-n.ensures, none_yet _ _)
 
 pub loop-i-preserved : goal.loop-i-preserved
 loop-i-preserved c =

@@ -10,8 +10,8 @@ overflow_mul-bits_of c = omega (arith, c.bits_of.ensures, bits_small c.args.spcr
 pub returns : goal.returns
 returns c =
     let start = c.args in
-    let few : c.minus-edges.result ≤ 32 =
-    omega (arith, c.minus-edges.ensures, c.bits_of.ensures, bits_small start.spcr0 start.self.command) in
+    let few : c.saturating_sub-edges.result ≤ 32 =
+    omega (arith, c.saturating_sub-edges.ensures, c.bits_of.ensures, bits_small start.spcr0 start.self.command) in
     let least : c.spbr.result ≤ 255 = omega (arith, c.spbr.ensures) in
     mul-le-mul few least
 

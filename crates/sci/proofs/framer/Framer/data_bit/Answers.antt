@@ -16,7 +16,7 @@ returns-in-10 c = rw (c.collected.ensures, c.more.ensures, c.vote-v.ensures, c.i
 
 pub returns-in-16 : goal.returns-in-16
 unfolding data_bit
-returns-in-16 c = rw (c.one_less.ensures, c.in-16.is)
+returns-in-16 c = rw (c.saturating_sub.ensures, c.in-16.is)
 
 pub returns-in_default : goal.returns-in_default
 unfolding data_bit

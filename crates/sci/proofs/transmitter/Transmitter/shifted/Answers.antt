@@ -3,4 +3,4 @@ use Rattle.sci.proofs.transmitter.Transmitter.shifted.Goals as goal
 
 pub returns : goal.returns
 unfolding shifted
-returns c = rw (c.passed.ensures, c.one_less.ensures)
+returns c = rw (c.passed.ensures, c.saturating_sub.ensures)

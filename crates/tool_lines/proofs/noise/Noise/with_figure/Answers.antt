@@ -1,4 +1,4 @@
 use Rattle.tool_lines.proofs.noise.Noise.with_figure.Goals as goal
 
 pub returns : goal.returns
-returns c = rw (c.larger.ensures, c.summed.ensures)
+returns c = rw (c.max.ensures, c.summed.ensures)

@@ -7,7 +7,7 @@ pub returns : goal.returns
 returns c =
     rw (
       c.within.ensures,
-      c.least.ensures,
+      c.min.ensures,
       c.quiet.ensures,
       c.wires.ensures,
       c.before-2.ensures,
