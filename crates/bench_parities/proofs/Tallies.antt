@@ -1,19 +1,13 @@
 -- The sum over words, one further and at the end.
-use mathlib.Core.Bool.{Bool, true, false}
 use mathlib.Core.List.{List}
 use mathlib.Core.Path.{◌≡◌}
 use Prim.Native.Nat.{ℕ, ◌+◌, ◌≤◌, ◌<◌}
-use native.Mathlib.Omega.{arith}
 use native.Mathlib.Numerals.{add-one}
 use lib.ListN.{length, get_or, drop, drop_of_length-le}
 use lib.Seq.{drop-cons}
 use Rattle.steps.specs.Bits.{digit}
 use Rattle.sci.specs.model.Bits.{odd}
 use Rattle.bench_parities.specs.Tally.{tally}
-
-pub small : (b : Bool) → digit b ≤ 1
-small true = omega arith
-small false = omega arith
 
 pub further : (sum : ℕ) (ws : List ℕ) (i : ℕ) → i < length ws → tally sum (drop i ws) ≡ tally (sum + digit (odd (get_or ws i 0))) (drop (i + 1) ws)
 unfolding tally

@@ -5,7 +5,7 @@ ghost use Rattle.std.specs.Prelude.{◌≡◌};
 ghost use Rattle.sci.specs.model.Bits.{odd};
 ghost use Rattle.bench_parities.specs.Tally.{tally};
 
-use sci::bits::{digit, odd};
+use sci::bits::odd;
 
 // Parity as it was first written: by counting ones.
 // Ruled out: even taken for odd; the low bit alone.
@@ -18,14 +18,13 @@ pub fn by_count(w: u16) -> bool
 // How many of the words have an odd number of ones.
 // Ruled out: the last word left out; every word counted.
 #[unsafe(no_mangle)]
+#[tactic(auto, using(crate::proofs::Tallies::further, crate::proofs::Tallies::done))]
 pub extern "C" fn odd_by_count(words: &[u16]) -> usize
     ensures { result ≡ tally 0 words.now }
 {
     let mut sum: usize = 0;
-    let mut i: usize = 0;
-    while i < words.len() {
-        sum += digit(by_count(words[i])) as usize;
-        i += 1;
+    for w in words {
+        sum += usize::from(by_count(*w));
     }
     sum
 }
@@ -33,14 +32,13 @@ pub extern "C" fn odd_by_count(words: &[u16]) -> usize
 // The same by the module's table.
 // Ruled out: the last word left out; every word counted.
 #[unsafe(no_mangle)]
+#[tactic(auto, using(crate::proofs::Tallies::further, crate::proofs::Tallies::done))]
 pub extern "C" fn odd_by_table(words: &[u16]) -> usize
     ensures { result ≡ tally 0 words.now }
 {
     let mut sum: usize = 0;
-    let mut i: usize = 0;
-    while i < words.len() {
-        sum += digit(odd(words[i])) as usize;
-        i += 1;
+    for w in words {
+        sum += usize::from(odd(*w));
     }
     sum
 }

@@ -5,7 +5,7 @@ ghost use Rattle.std.specs.Prelude.{◌≡◌};
 ghost use Rattle.sci.specs.model.Bits.{vote};
 ghost use Rattle.bench_votes.specs.Tally.{number, added, tally};
 
-use sci::bits::{Voted, digit};
+use sci::bits::Voted;
 
 // The vote as it was first written: by the pairs of samples that agree.
 // Ruled out: two zeros and a one read as a one; a vote that never disagrees.
@@ -14,7 +14,7 @@ pub fn by_pairs(a: bool, b: bool, c: bool) -> Voted
 {
     Voted {
         bit: (a & b) | (a & c) | (b & c),
-        disagreed: digit((a | b | c) & !(a & b & c)),
+        disagreed: u8::from((a | b | c) & !(a & b & c)),
     }
 }
 
@@ -22,7 +22,7 @@ pub fn by_pairs(a: bool, b: bool, c: bool) -> Voted
 fn number(v: Voted) -> u16
     ensures { result ≡ number v }
 {
-    (v.disagreed as u16) * 2 + (digit(v.bit) as u16)
+    (v.disagreed as u16) * 2 + u16::from(v.bit)
 }
 
 // One more vote, in 32 bits.
@@ -35,15 +35,13 @@ fn added(sum: u64, v: Voted) -> u64
 // The sum over triples, each in the low three bits of a byte.
 // Ruled out: the last triple left out; a sum of the bytes.
 #[unsafe(no_mangle)]
+#[tactic(auto, using(crate::proofs::Tallies::further, crate::proofs::Tallies::done))]
 pub extern "C" fn vote_by_pairs(triples: &[u8]) -> u64
     ensures { result ≡ tally 0 triples.now }
 {
     let mut sum: u64 = 0;
-    let mut i: usize = 0;
-    while i < triples.len() {
-        let t = triples[i];
-        sum = added(sum, by_pairs(t % 2 == 1, t / 2 % 2 == 1, t / 4 % 2 == 1));
-        i += 1;
+    for t in triples {
+        sum = added(sum, by_pairs(*t % 2 == 1, *t / 2 % 2 == 1, *t / 4 % 2 == 1));
     }
     sum
 }
@@ -51,18 +49,16 @@ pub extern "C" fn vote_by_pairs(triples: &[u8]) -> u64
 // The same by the receiver's vote.
 // Ruled out: the last triple left out; a sum of the bytes.
 #[unsafe(no_mangle)]
+#[tactic(auto, using(crate::proofs::Tallies::further, crate::proofs::Tallies::done))]
 pub extern "C" fn vote_by_count(triples: &[u8]) -> u64
     ensures { result ≡ tally 0 triples.now }
 {
     let mut sum: u64 = 0;
-    let mut i: usize = 0;
-    while i < triples.len() {
-        let t = triples[i];
+    for t in triples {
         sum = added(
             sum,
-            sci::bits::vote(t % 2 == 1, t / 2 % 2 == 1, t / 4 % 2 == 1),
+            sci::bits::vote(*t % 2 == 1, *t / 2 % 2 == 1, *t / 4 % 2 == 1),
         );
-        i += 1;
     }
     sum
 }

@@ -1,6 +1,6 @@
 // Document 02, L14: the account of frames since the last reset.
-ghost use Rattle.std.specs.Prelude.{◌≡◌, ◌+◌, min};
-ghost use Rattle.sci.specs.model.Account.{most, more, counting};
+ghost use Rattle.std.specs.Prelude.{◌≡◌};
+ghost use Rattle.sci.specs.model.Account.{more, counting};
 
 use crate::receiver::Outcome;
 
@@ -13,16 +13,10 @@ pub struct Account {
 }
 
 // A count stays at the largest number.
-fn one_more(n: u32) -> u32
-    ensures { result ≡ min most (n + 1) }
-{
-    if n < u32::MAX { n + 1 } else { n }
-}
-
 fn more(counts: bool, n: u32) -> u32
     ensures { result ≡ more counts n }
 {
-    if counts { one_more(n) } else { n }
+    if counts { n.saturating_add(1) } else { n }
 }
 
 impl Account {

@@ -1,9 +1,10 @@
 // The sampling points move: a fall of the line near a bit's border makes the sample that sees it RT1.
-ghost use Rattle.std.specs.Prelude.{◌≡◌, cond, ◌-◌};
+ghost use Rattle.std.specs.Prelude.{◌≡◌};
 ghost use Rattle.sci.specs.model.Control.{bits_of};
 ghost use Rattle.sci.specs.model.Framer.{early_fall, late_fall, adjusts, adjusted};
 
 use crate::framer::{Framer, last_bit};
+use steps::choose;
 
 impl Framer {
     // Whether a sample is RT11 to RT16 of a data bit, with another data bit after it.
@@ -37,15 +38,9 @@ impl Framer {
     pub(crate) fn adjusted(mut self) -> Framer
         ensures { result ≡ adjusted self }
     {
-        self.left = left_after(self.early_fall(), self.left);
+        self.left = choose(self.early_fall(), self.left.saturating_sub(1), self.left);
         self.rt = 1;
         self.moved = true;
         self
     }
-}
-
-fn left_after(early: bool, left: u8) -> u8
-    ensures { result ≡ cond early (left - 1) left }
-{
-    if early { left.saturating_sub(1) } else { left }
 }

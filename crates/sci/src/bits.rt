@@ -1,6 +1,5 @@
 // The leaves on samples and words: the vote over three samples, and parity from a table, which sending and receiving share.
 ghost use Rattle.std.specs.Prelude.{◌≡◌, ◌%◌};
-ghost use Rattle.steps.specs.Bits.{digit};
 ghost use Rattle.sci.specs.model.Bits.{vote, odd, parity_bit};
 
 // What a vote over three samples gives: the bit, and how many of them disagreed with it.
@@ -16,18 +15,11 @@ pub fn vote(a: bool, b: bool, c: bool) -> Voted
     ensures { result ≡ vote a b c }
 {
     // Two ones or three are the majority; with one or two a sample disagrees.
-    let ones = digit(a) + digit(b) + digit(c);
+    let ones = u8::from(a) + u8::from(b) + u8::from(c);
     Voted {
         bit: 2 <= ones,
         disagreed: (ones + 1) / 2 % 2,
     }
-}
-
-// Ruled out: a one counted as none; any sample counted.
-pub fn digit(b: bool) -> u8
-    ensures { result ≡ digit b }
-{
-    if b { 1 } else { 0 }
 }
 
 // Parity of each nine-bit word, in their order: 1 for an odd number of ones, else 0; written as bytes so that a line has 32 of them.

@@ -1,5 +1,5 @@
 // So many clocks of the serial half, those that bring no sample at once.
-ghost use Rattle.std.specs.Prelude.{◌≡◌, ◌+◌, ◌-◌, min};
+ghost use Rattle.std.specs.Prelude.{◌≡◌, ◌+◌, min};
 ghost use Rattle.steps.specs.Iterate.{iterate};
 ghost use Rattle.sci.specs.model.Control.{bits_of};
 ghost use Rattle.sci.specs.model.Serial.{clocked};
@@ -53,7 +53,7 @@ impl Sci {
         if period == 0 {
             u32::MAX
         } else {
-            left_of(period - 1, self.prescaler as u32)
+            (period - 1).saturating_sub(self.prescaler as u32)
         }
     }
 
@@ -71,6 +71,7 @@ impl Sci {
 
     // k such clocks.
     // Ruled out: a count with the prescaler at rest; one that passes 65,535.
+    #[tactic(auto, unfolding(crate::specs::quick::Quiet::skipped))]
     pub fn skipped(mut self, k: u32) -> Sci
         ensures { result ≡ skipped k self }
     {
@@ -133,20 +134,9 @@ impl Sci {
     }
 }
 
-fn left_of(all: u32, gone: u32) -> u32
-    ensures { result ≡ all - gone }
-{
-    if gone < all { all - gone } else { 0 }
-}
-
 // k clocks more; the count stops at its largest value.
 fn up_to(n: u16, k: u32) -> u16
     ensures { result ≡ min 65535 (n + k) }
 {
-    let room = 65535 - n;
-    if k < (room as u32) {
-        n + (k as u16)
-    } else {
-        65535
-    }
+    (n as u32).saturating_add(k).min(65535) as u16
 }

@@ -2,7 +2,7 @@
 ghost use Rattle.std.specs.Prelude.{◌≡◌};
 ghost use Rattle.sci.specs.model.Control.{bits_of};
 ghost use Rattle.sci.specs.quick.Plain.{busy, rests, rested};
-ghost use Rattle.sci.specs.model.Framer.{more, searching, begun, begins, abandons, ends, frame_of, searched, fixed, last_bit, framed};
+ghost use Rattle.sci.specs.model.Framer.{searching, begun, begins, abandons, ends, frame_of, searched, fixed, last_bit, framed};
 
 use crate::bits::vote;
 use crate::control::bits_of;
@@ -19,7 +19,7 @@ pub struct Framer {
     // The first two samples of a vote.
     pub first: bool,
     pub second: bool,
-    // The noise figure so far.
+    // The noise figure so far: it stops at 255, which no frame's gets to.
     pub noise: u8,
     // An adjustment has set RT1 of this bit.
     pub moved: bool,
@@ -102,7 +102,7 @@ impl Framer {
         let v = vote(self.first, self.second, x);
         Frame {
             word: self.shift,
-            noise: more(self.noise, v.disagreed),
+            noise: self.noise.saturating_add(v.disagreed),
             stop: v.bit,
         }
     }
@@ -158,13 +158,6 @@ impl Framer {
             self.fixed(three, x, m)
         }
     }
-}
-
-// The figure stops at 255, which no frame's gets to.
-pub(crate) fn more(noise: u8, by: u8) -> u8
-    ensures { result ≡ more noise by }
-{
-    if noise < 255 - by { noise + by } else { 255 }
 }
 
 // Whether something is done at the RT after this one: RT8 to RT10 and RT16, as the bits 7 to 9 and 15; in a start bit RT3, RT5 and RT7 too,

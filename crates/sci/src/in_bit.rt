@@ -3,8 +3,8 @@ ghost use Rattle.std.specs.Prelude.{◌≡◌};
 ghost use Rattle.sci.specs.model.Control.{bits_of};
 ghost use Rattle.sci.specs.model.Framer.{noise_at, judged, heard, start_bit, collected, data_bit, stop_bit, in_bit};
 
-use crate::bits::{digit, vote};
-use crate::framer::{Framer, more};
+use crate::bits::vote;
+use crate::framer::Framer;
 
 impl Framer {
     // RT rt, with so much more noise.
@@ -12,7 +12,7 @@ impl Framer {
         ensures { result ≡ noise_at self rt by }
     {
         self.rt = rt;
-        self.noise = more(self.noise, by);
+        self.noise = self.noise.saturating_add(by);
         self
     }
 
@@ -31,7 +31,7 @@ impl Framer {
         ensures { result ≡ heard voted self rt x }
     {
         if voted {
-            self.noise_at(rt, digit(x))
+            self.noise_at(rt, u8::from(x))
         } else {
             self.rt = rt;
             self
@@ -39,6 +39,7 @@ impl Framer {
     }
 
     // RT rt of the start bit. Where the vote at RT7 lets it stand, what disagreed is its one, if there is one.
+    #[tactic(auto, unfolding(crate::specs::model::Framer::start_bit))]
     fn start_bit(mut self, rt: u8, x: bool) -> Framer
         ensures { result ≡ start_bit self rt x }
     {
@@ -67,6 +68,7 @@ impl Framer {
     }
 
     // RT rt of a data bit.
+    #[tactic(auto, unfolding(crate::specs::model::Framer::data_bit))]
     fn data_bit(mut self, rt: u8, x: bool, m: bool) -> Framer
         ensures { result ≡ data_bit (bits_of m) self rt x }
     {
@@ -84,7 +86,7 @@ impl Framer {
             10 => {
                 let v = vote(self.first, self.second, x);
                 self.rt = rt;
-                self.noise = more(self.noise, v.disagreed);
+                self.noise = self.noise.saturating_add(v.disagreed);
                 self.shift = collected(v.bit, m, self.shift);
                 self
             }
@@ -102,6 +104,7 @@ impl Framer {
     }
 
     // RT rt of the stop bit.
+    #[tactic(auto, unfolding(crate::specs::model::Framer::stop_bit))]
     fn stop_bit(mut self, rt: u8, x: bool) -> Framer
         ensures { result ≡ stop_bit self rt x }
     {

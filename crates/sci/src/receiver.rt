@@ -1,5 +1,5 @@
 // The receiver: one sample of RXD at a time, with the flags that it raises.
-ghost use Rattle.std.specs.Prelude.{◌≡◌, cond, ◌&&◌, ◌+◌, min};
+ghost use Rattle.std.specs.Prelude.{◌≡◌, ◌&&◌};
 ghost use Rattle.sci.specs.model.Bits.{parity_bit};
 ghost use Rattle.sci.specs.model.Control.{bits_of};
 ghost use Rattle.sci.specs.quick.Plain.{plain, passed};
@@ -10,6 +10,7 @@ use crate::flags::Flags;
 use crate::framer::{Frame, Framer};
 use crate::status::Status;
 use crate::{control, framer};
+use steps::choose;
 
 #[repr(C)]
 #[derive(Clone, Copy)]
@@ -85,25 +86,17 @@ fn status_after(s: Status, o: Outcome, f: Frame, bad: bool, idles: bool) -> Stat
 fn wrong_parity(asked: bool, pt: bool, w: u16) -> bool
     ensures { result ≡ (asked && parity_bit pt w) }
 {
-    if asked { parity_bit(pt, w) } else { false }
+    asked && parity_bit(pt, w)
 }
 
 fn idle_count(counted: bool, idle: u8, limit: u8) -> u8
     ensures { result ≡ idle_count counted idle limit }
 {
-    if counted { one_more(idle, limit) } else { 0 }
-}
-
-fn one_more(idle: u8, limit: u8) -> u8
-    ensures { result ≡ min limit (idle + 1) }
-{
-    if idle < limit { idle + 1 } else { limit }
-}
-
-fn kept(enters: bool, word: u16, scdr: u16) -> u16
-    ensures { result ≡ cond enters word scdr }
-{
-    if enters { word } else { scdr }
+    if counted {
+        idle.saturating_add(1).min(limit)
+    } else {
+        0
+    }
 }
 
 impl Receiver {
@@ -163,6 +156,7 @@ impl Receiver {
         }
     }
 
+    #[tactic(auto, unfolding(crate::specs::model::Receiver::receiver_after))]
     fn after(self, o: Outcome, sccr1: u16, x: bool) -> Receiver
         ensures { result ≡ receiver_after self o sccr1 x }
     {
@@ -178,8 +172,8 @@ impl Receiver {
             idle: idle_count(o.counted, self.idle, control::frame_samples(m)),
             since: !o.reached & (enters | self.since),
             asleep: self.asleep & !o.taken & !(o.reached & !control::wake(sccr1)),
-            scdr: kept(enters, framer.shift, self.scdr),
-            noise: steps::choose(enters, frame.noise, self.noise),
+            scdr: choose(enters, framer.shift, self.scdr),
+            noise: choose(enters, frame.noise, self.noise),
         }
     }
 

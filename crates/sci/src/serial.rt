@@ -1,5 +1,5 @@
 // The serial half as one state: reset, clocks, TXD, the request, and what it counts.
-ghost use Rattle.std.specs.Prelude.{◌≡◌, ◌+◌, min};
+ghost use Rattle.std.specs.Prelude.{◌≡◌};
 ghost use Rattle.sci.specs.model.Serial.{reset_sci, active, due, sampled, counted, prescaled, clocked, txd_driven, txd, asks};
 ghost use Rattle.sci.specs.quick.Plain.{listened};
 ghost use Rattle.sci.specs.model.Receiver.{outcome};
@@ -106,10 +106,11 @@ impl Sci {
         }
     }
 
+    // One clock more. The count stops at its largest value, which only SCBR 0, with no sample to come, lets it reach.
     fn counted(mut self) -> Sci
         ensures { result ≡ counted self }
     {
-        self.prescaler = one_more(self.prescaler);
+        self.prescaler = self.prescaler.saturating_add(1);
         self
     }
 
@@ -221,11 +222,4 @@ fn accounted(
     } else {
         account
     }
-}
-
-// One clock more. The count stops at its largest value, which only SCBR 0, with no sample to come, lets it reach.
-fn one_more(n: u16) -> u16
-    ensures { result ≡ min 65535 (n + 1) }
-{
-    if n < 65535 { n + 1 } else { 65535 }
 }

@@ -8,6 +8,7 @@ use crate::bits::parity_bit;
 use crate::control;
 use crate::flags::Flags;
 use crate::status::Status;
+use steps::choose;
 
 #[repr(C)]
 #[derive(Clone, Copy)]
@@ -73,7 +74,7 @@ fn frame_bits(m: bool, w: u16) -> u16
 fn preamble_bits(m: bool) -> u16
     ensures { result ≡ preamble_bits (bits_of m) }
 {
-    if m { 2047 } else { 1023 }
+    choose(m, 2047, 1023)
 }
 
 fn new_left(begins: bool, m: bool, left: u8) -> u8
@@ -90,7 +91,7 @@ fn new_left(begins: bool, m: bool, left: u8) -> u8
 fn passed(over: bool, shift: u16) -> u16
     ensures { result ≡ passed over shift }
 {
-    if over { shift / 2 } else { shift }
+    choose(over, shift / 2, shift)
 }
 
 // The bits of the data w, where a frame begins.
@@ -107,7 +108,7 @@ fn framed(frame: bool, sccr1: u16, w: u16, rest: u16) -> u16
 fn new_shift(preamble: bool, m: bool, bits: u16) -> u16
     ensures { result ≡ cond preamble (preamble_bits (bits_of m)) bits }
 {
-    if preamble { preamble_bits(m) } else { bits }
+    choose(preamble, preamble_bits(m), bits)
 }
 
 impl Transmitter {
@@ -137,6 +138,7 @@ impl Transmitter {
     }
 
     // A sample at which none does.
+    #[tactic(auto, unfolding(crate::specs::quick::Plain::shifted))]
     fn shifted(mut self) -> Transmitter
         ensures { result ≡ shifted self }
     {

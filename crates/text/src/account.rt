@@ -3,7 +3,6 @@ ghost use Rattle.text.specs.Line.{Shows};
 ghost use Rattle.text.specs.Account.{account_line};
 
 use crate::line::Line;
-use sci::bits::digit;
 
 // Frames taken and lost, and how many words wait.
 // Ruled out: taken and lost exchanged; a word that waits left out; a count cut off at the left.
@@ -16,6 +15,6 @@ pub fn account_line(taken: u32, lost: u32, waiting: bool) -> Line
         .write(b", lost ")
         .decimal(10, lost as u64)
         .write(b", waiting ")
-        .decimal(1, digit(waiting) as u64)
+        .decimal(1, u64::from(waiting))
         .put(10)
 }

@@ -1,9 +1,16 @@
+use mathlib.Core.Bool.{Bool, true, false, cond}
 use mathlib.Core.List.{List}
+use mathlib.Core.Path.{◌≡◌, refl}
 use Prim.Native.Nat.{ℕ}
+use mir.Val.{bool_byte}
 use Rattle.text.specs.Account.{account_line}
 use Rattle.text.proofs.Puts.{put_puts, puts_append, shows}
 use Rattle.text.proofs.Fields.{account_fits}
 use Rattle.text.proofs.account.account_line.Goals as goal
+
+byte_of_bit : (b : Bool) → bool_byte b ≡ cond b 1 0
+byte_of_bit true = refl
+byte_of_bit false = refl
 
 pub returns : goal.returns
 returns c =
@@ -12,7 +19,8 @@ returns c =
     rw (
       c.put.ensures,
       c.decimal-3.ensures,
-      c.digit.ensures,
+      c.from.ensures,
+      byte_of_bit,
       c.write-3.ensures,
       c.decimal-2.ensures,
       c.write-2.ensures,

@@ -1,7 +1,0 @@
-use Rattle.sci.proofs.framer.last_bit.Goals as goal
-
-pub returns-then-m : goal.returns-then-m
-returns-then-m c = rw c.if-m.true
-
-pub returns-else-m : goal.returns-else-m
-returns-else-m c = rw c.if-m.false
