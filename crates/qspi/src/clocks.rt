@@ -25,7 +25,7 @@ fn before_change(running: bool, ready: bool, left: u16) -> u32
 fn less(left: u16, k: u32) -> u16
     ensures { result ≡ left - k }
 {
-    if k < left as u32 { left - k as u16 } else { 0 }
+    (left as u32).saturating_sub(k) as u16
 }
 
 // Clocks to an edge, with its own.

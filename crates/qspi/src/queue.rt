@@ -10,7 +10,7 @@ use steps::choose;
 
 // What comes next: the working copy of SPCR2, the pointer, and whether a write touched NEWQP since the last clock 1.
 #[repr(C)]
-#[derive(Clone, Copy)]
+#[derive(Clone, Copy, PartialEq, Eq)]
 pub struct Next {
     pub working: u16,
     pub pointer: u8,

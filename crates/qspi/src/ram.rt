@@ -6,7 +6,7 @@ use crate::Qspi;
 use steps::{lower_byte, merge, upper_byte, word};
 
 #[repr(C)]
-#[derive(Clone, Copy)]
+#[derive(Clone, Copy, PartialEq, Eq)]
 pub struct Ram {
     pub receive: [u16; 16],
     pub transmit: [u16; 16],

@@ -12,7 +12,7 @@ use steps::{choose, merge, upper_byte, word};
 
 // SPCR3 stands first for the speed alone.
 #[repr(C)]
-#[derive(Clone, Copy)]
+#[derive(Clone, Copy, PartialEq, Eq)]
 pub struct Registers {
     pub spcr3: u8,
     pub spcr0: u16,

@@ -1,4 +1,4 @@
-// Whether two states of the queue are one, field by field.
+// Whether two states of the queue are one: the entry is asked first and the RAM last.
 ghost use Rattle.std.specs.Prelude.{◌≡◌};
 ghost use Rattle.qspi.specs.quick.Same.{Decides};
 
@@ -9,40 +9,11 @@ use crate::ram::Ram;
 use crate::registers::Registers;
 use crate::spsr::{Flags, Spsr};
 
-fn same_words(a: [u16; 16], b: [u16; 16]) -> bool
-    ensures { Decides result (a ≡ b) }
-{
-    let mut i = 0;
-    while i < 16 {
-        if a[i] != b[i] {
-            return false;
-        }
-        i += 1;
-    }
-    true
-}
-
-fn same_bytes(a: [u8; 16], b: [u8; 16]) -> bool
-    ensures { Decides result (a ≡ b) }
-{
-    let mut i = 0;
-    while i < 16 {
-        if a[i] != b[i] {
-            return false;
-        }
-        i += 1;
-    }
-    true
-}
-
 impl Registers {
     fn same(self, other: Registers) -> bool
         ensures { Decides result (self ≡ other) }
     {
-        (self.spcr3 == other.spcr3)
-            & (self.spcr0 == other.spcr0)
-            & (self.spcr1 == other.spcr1)
-            & (self.spcr2 == other.spcr2)
+        self == other
     }
 }
 
@@ -50,7 +21,7 @@ impl Flags {
     fn same(self, other: Flags) -> bool
         ensures { Decides result (self ≡ other) }
     {
-        (self.spif == other.spif) & (self.modf == other.modf) & (self.halta == other.halta)
+        self == other
     }
 }
 
@@ -66,15 +37,7 @@ impl Ram {
     fn same(self, other: Ram) -> bool
         ensures { Decides result (self ≡ other) }
     {
-        let receive = self.receive;
-        let others_receive = other.receive;
-        let transmit = self.transmit;
-        let others_transmit = other.transmit;
-        let commands = self.commands;
-        let others_commands = other.commands;
-        same_words(receive, others_receive)
-            & same_words(transmit, others_transmit)
-            & same_bytes(commands, others_commands)
+        self == other
     }
 }
 
@@ -82,9 +45,7 @@ impl Next {
     fn same(self, other: Next) -> bool
         ensures { Decides result (self ≡ other) }
     {
-        (self.working == other.working)
-            & (self.pointer == other.pointer)
-            & (self.pending == other.pending)
+        self == other
     }
 }
 

@@ -4,7 +4,7 @@ ghost use Rattle.steps.specs.Bits.{digit};
 ghost use Rattle.qspi.specs.model.Spsr.{either, without, spsr_byte, flags_seen, falls, falling, fallen};
 
 #[repr(C)]
-#[derive(Clone, Copy)]
+#[derive(Clone, Copy, PartialEq, Eq)]
 pub struct Flags {
     pub spif: bool,
     pub modf: bool,
