@@ -45,10 +45,6 @@ fn framed(f: Framer, three: bool, x: bool, m: bool, moving: bool) -> Framer {
     }
 }
 
-fn kept(new: bool, word: u16, old: u16) -> u16 {
-    if new { word } else { old }
-}
-
 fn heard(e: Ear, x: bool, m: bool, moving: bool) -> Ear {
     let framer = e.framer;
     let ended = framer.ends() & !e.came;
@@ -59,7 +55,7 @@ fn heard(e: Ear, x: bool, m: bool, moving: bool) -> Ear {
         last2: e.last1,
         last3: e.last2,
         came: e.came | ended,
-        word: kept(ended, frame.word, e.word),
+        word: if ended { frame.word } else { e.word },
         stop: (ended & frame.stop) | (!ended & e.stop),
     }
 }
@@ -67,10 +63,8 @@ fn heard(e: Ear, x: bool, m: bool, moving: bool) -> Ear {
 // n samples of one level.
 pub(crate) fn samples(e: Ear, x: bool, n: u16, m: bool, moving: bool) -> Ear {
     let mut next = e;
-    let mut i: u16 = 0;
-    while i < n {
+    for _ in 0..n {
         next = heard(next, x, m, moving);
-        i += 1;
     }
     next
 }

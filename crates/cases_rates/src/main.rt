@@ -11,11 +11,9 @@ fn sent(word: u16, m: bool, length: u16, moving: bool) -> Ear {
     let mut e = ear::samples(ear::listening(), false, length, m, moving);
     let n = ear::bits(m);
     let mut rest = word;
-    let mut i = 0;
-    while i < n {
+    for _ in 0..n {
         e = ear::samples(e, rest % 2 == 1, length, m, moving);
         rest = rest / 2;
-        i += 1;
     }
     ear::samples(e, true, 64, m, moving)
 }
@@ -25,18 +23,6 @@ fn arrives(word: u16, m: bool, length: u16, moving: bool) -> bool {
     e.came & e.stop & (e.word == word)
 }
 
-fn larger(a: u16, b: u16) -> u16 {
-    if a < b { b } else { a }
-}
-
-fn less(a: u16, b: u16) -> u16 {
-    if b < a { a - b } else { 0 }
-}
-
-fn later(falls: bool, i: u16, last: u16) -> u16 {
-    if falls { i } else { last }
-}
-
 // The largest number of bits from a fall to the next, the start bit's counted, or from the last to the stop bit.
 fn apart(word: u16, m: bool) -> u16 {
     let n = ear::bits(m);
@@ -44,25 +30,16 @@ fn apart(word: u16, m: bool) -> u16 {
     let mut before = false;
     let mut last: u16 = 0;
     let mut most: u16 = 0;
-    let mut i: u16 = 0;
-    while i < n {
-        i += 1;
+    for i in 1..=n {
         let one = rest % 2 == 1;
-        let falls = before & !one;
-        most = later(falls, larger(most, less(i, last)), most);
-        last = later(falls, i, last);
+        if before & !one {
+            most = most.max(i.saturating_sub(last));
+            last = i;
+        }
         before = one;
         rest = rest / 2;
     }
-    larger(most, less(n + 1, last))
-}
-
-fn one_more(n: u64, yes: bool) -> u64 {
-    if n < 512 {
-        if yes { n + 1 } else { n }
-    } else {
-        n
-    }
+    most.max((n + 1).saturating_sub(last))
 }
 
 fn text(t: &[u8]) {
@@ -87,10 +64,12 @@ fn with_word(c: Counts, word: u16, m: bool, length: u16, most: u16) -> Counts {
     let right = arrives(word, m, length, true);
     let near = apart(word, m) <= most;
     Counts {
-        stay: one_more(c.stay, arrives(word, m, length, false)),
-        moving: one_more(c.moving, right),
-        near: one_more(c.near, near),
-        near_right: one_more(c.near_right, near & right),
+        stay: c
+            .stay
+            .saturating_add(u64::from(arrives(word, m, length, false))),
+        moving: c.moving.saturating_add(u64::from(right)),
+        near: c.near.saturating_add(u64::from(near)),
+        near_right: c.near_right.saturating_add(u64::from(near & right)),
     }
 }
 
@@ -103,10 +82,8 @@ fn counted(m: bool, length: u16, most: u16) -> Counts {
         near: 0,
         near_right: 0,
     };
-    let mut w: u16 = 0;
-    while w < all {
+    for w in 0..all {
         c = with_word(c, w, m, length, most);
-        w += 1;
     }
     c
 }

@@ -4,10 +4,8 @@ use sci::serial::Sci;
 // n samples of one level.
 pub(crate) fn samples(s: Sci, x: bool, n: u16) -> Sci {
     let mut next = s;
-    let mut i = 0;
-    while i < n {
+    for _ in 0..n {
         next = next.sample(x);
-        i += 1;
     }
     next
 }
@@ -15,10 +13,8 @@ pub(crate) fn samples(s: Sci, x: bool, n: u16) -> Sci {
 // n clocks of one level.
 pub(crate) fn clocks(s: Sci, x: bool, n: u16) -> Sci {
     let mut next = s;
-    let mut i = 0;
-    while i < n {
+    for _ in 0..n {
         next = next.clock(x);
-        i += 1;
     }
     next
 }
@@ -31,11 +27,9 @@ pub(crate) fn bit(s: Sci, x: bool) -> Sci {
 fn bits(s: Sci, word: u16, n: u16) -> Sci {
     let mut next = s;
     let mut rest = word;
-    let mut i = 0;
-    while i < n {
+    for _ in 0..n {
         next = bit(next, rest % 2 == 1);
         rest = rest / 2;
-        i += 1;
     }
     next
 }

@@ -9,24 +9,24 @@ mod show;
 use sci::serial::Sci;
 
 // Where in a line the next byte stands.
-const START: u8 = 0;
-
-const NAME: u8 = 1;
-
-const ACTS: u8 = 2;
-
-const PASSED_OVER: u8 = 3;
+#[derive(Clone, Copy, PartialEq, Eq)]
+enum Place {
+    Start,
+    Name,
+    Acts,
+    PassedOver,
+}
 
 // The serial half, and the act that waits for the rest of its number.
 #[derive(Clone, Copy)]
 struct Run {
     sci: Sci,
-    place: u8,
+    place: Place,
     act: u8,
     number: u16,
 }
 
-fn begun(sci: Sci, place: u8, act: u8) -> Run {
+fn begun(sci: Sci, place: Place, act: u8) -> Run {
     Run {
         sci,
         place,
@@ -41,12 +41,12 @@ fn done(r: Run) -> Sci {
 }
 
 fn line_end(r: Run) -> Run {
-    if r.place == ACTS {
+    if r.place == Place::Acts {
         let s = done(r);
         show::text(b"\n");
-        return begun(s, START, b' ');
+        return begun(s, Place::Start, b' ');
     }
-    begun(r.sci, START, b' ')
+    begun(r.sci, Place::Start, b' ')
 }
 
 // The value of a hexadecimal digit, or 16.
@@ -64,17 +64,17 @@ fn in_acts(mut r: Run, c: u8) -> Run {
         r.number = r.number % 4096 * 16 + d as u16;
         return r;
     }
-    begun(done(r), ACTS, c)
+    begun(done(r), Place::Acts, c)
 }
 
 fn in_name(mut r: Run, c: u8) -> Run {
     if c == b'|' {
         show::text(b": ");
-        r.place = ACTS;
+        r.place = Place::Acts;
         return r;
     }
     show::text(&[c]);
-    r.place = NAME;
+    r.place = Place::Name;
     r
 }
 
@@ -84,25 +84,23 @@ fn fed(mut r: Run, c: u8) -> Run {
         return line_end(r);
     }
     let place = r.place;
-    if place == ACTS {
+    if place == Place::Acts {
         return in_acts(r, c);
     }
-    if place == PASSED_OVER {
+    if place == Place::PassedOver {
         return r;
     }
-    if (place == START) & (c == b'/') {
-        r.place = PASSED_OVER;
+    if (place == Place::Start) & (c == b'/') {
+        r.place = Place::PassedOver;
         return r;
     }
     in_name(r, c)
 }
 
 fn cases(text: &[u8]) {
-    let mut r = begun(Sci::reset(), START, b' ');
-    let mut at: usize = 0;
-    while at < text.len() {
-        r = fed(r, text[at]);
-        at += 1;
+    let mut r = begun(Sci::reset(), Place::Start, b' ');
+    for c in text {
+        r = fed(r, *c);
     }
 }
 

@@ -52,23 +52,13 @@ pub(crate) fn driven(s: Sci) {
     io::print_decimal(1, s.txd_driven() as u64);
 }
 
-fn more(n: u8, one: bool) -> u8 {
-    if n < 16 {
-        if one { n + 1 } else { n }
-    } else {
-        n
-    }
-}
-
 // How many of the next 16 samples leave TXD at one.
 fn ones(s: Sci) -> u8 {
     let mut next = s;
     let mut n: u8 = 0;
-    let mut i: u8 = 0;
-    while i < 16 {
+    for _ in 0..16 {
         next = next.sample(true);
-        n = more(n, next.txd());
-        i += 1;
+        n = n.saturating_add(u8::from(next.txd()));
     }
     n
 }
@@ -85,11 +75,9 @@ fn level(s: Sci) {
 // The next n bits; the state after them.
 fn bits(s: Sci, n: u16) -> Sci {
     let mut next = s;
-    let mut i = 0;
-    while i < n {
+    for _ in 0..n {
         level(next);
         next = line::bit(next, true);
-        i += 1;
     }
     next
 }
