@@ -24,7 +24,6 @@ use Rattle.qsm.specs.model.Event.{answer_of, clock_limit, clock_module, clocks, 
 use Rattle.until_change.specs.Change.{look, differs, first_of, until_change}
 use Rattle.until_change.specs.Steady.{ahead, serial_still}
 use Rattle.until_change.specs.Claims.{started}
-use Rattle.until_change.specs.declared.Change.TheVariants.{After, Nothing}
 use Rattle.until_change.proofs.First.{found, passes, nothing}
 use Rattle.until_change.proofs.Turns.{changed}
 use Rattle.until_change.proofs.Returning.{for_ever}
@@ -77,7 +76,7 @@ back : (ahead 0 true (held reset_module 0xFF)).qspi ≡ (ahead 1 true (held rese
 unfolding reset_module reset iterate clock queue_clock
 back = refl
 
-pub none_met : until_change reset_module 0xFF true ≡ Nothing
+pub none_met : until_change reset_module 0xFF true ≡ None
 unfolding until_change
 none_met =
     nothing (differs reset_module 0xFF true) (clock_limit - reset_module.clock) 1

@@ -3,13 +3,13 @@ use mathlib.Core.Bool.{Bool, true, false, not}
 use mathlib.Core.Path.{◌≡◌, refl, sym, ap, ◌∙◌}
 use Prim.Native.Nat.{ℕ, zero, suc, ◌+◌, ◌-◌, ◌<◌, ◌≤◌, min}
 use native.Mathlib.Omega.{arith}
+use Rattle.std.specs.Prelude.{Some}
 use Rattle.steps.specs.Iterate.{iterate}
 use Rattle.qsm.specs.model.Event.{clock_limit, clocks, held}
 use Rattle.qsm.specs.declared.state.Module.{Module}
 use Rattle.until_change.specs.Change.{look, same_look, first_of, until_change}
 use Rattle.until_change.specs.Steady.{ahead, steady}
 use Rattle.until_change.specs.declared.Look.{Look}
-use Rattle.until_change.specs.declared.Change.TheVariants.{After}
 use Rattle.until_change.proofs.First.{found, passes}
 use Rattle.until_change.proofs.Steadily.{steady_look, look_ahead, ahead_add}
 
@@ -74,7 +74,7 @@ module _ (now : Look) (m s : Module) (rxd : Bool) (all left k : ℕ) (enough : l
           ap (changed now m rxd) here ∙ each j (inside all left k i j enough some.1 high here) ∙ ap not same
 
   -- Else the first of them is the change.
-  pub ends : same_look now (look (ahead k rxd s)) ≡ false → first_of (changed now m rxd) all 1 ≡ After (all - left + 1)
+  pub ends : same_look now (look (ahead k rxd s)) ≡ false → first_of (changed now m rxd) all 1 ≡ Some (all - left + 1)
   ends other =
       let sum : all ≡ all - left + left = omega arith in
       let parts : left ≡ suc (left - 1) = omega arith in
