@@ -8,7 +8,7 @@ use crate::view::{Kept, View};
 use qsm::event::{Access, Event};
 use qsm::state::Module;
 use steps::of_u32::least;
-use until_change::{number, room, shown, until_change, wires, within};
+use until_change::{room, shown, until_change, wires, within};
 
 // The clocks since the start of the trace, which a reset leaves; whether a record has been played, and a hold; RXD as the last hold gave it;
 // what the clock of a last edge keeps; and the module.
@@ -176,7 +176,7 @@ impl Probe {
         if kept.on {
             return 0;
         }
-        let n = number(until_change(device, device.inputs, self.rxd));
+        let n = until_change(device, device.inputs, self.rxd).unwrap_or(0);
         within(room(device.clock), least(before(n), q.quiet(wires(device))))
     }
 }

@@ -1,8 +1,9 @@
 -- A turn of the search: k steady clocks, from a module that has come so far that `left` of all clocks are left. Assumes nothing.
-use mathlib.Core.Bool.{Bool, true, false, not}
+use mathlib.Core.Bool.{Bool, true, false, not, ◌&&◌}
 use mathlib.Core.Path.{◌≡◌, refl, sym, ap, ◌∙◌}
 use Prim.Native.Nat.{ℕ, zero, suc, ◌+◌, ◌-◌, ◌<◌, ◌≤◌, min}
 use native.Mathlib.Omega.{arith}
+use lib.Dec.{eqb}
 use Rattle.std.specs.Prelude.{Some}
 use Rattle.steps.specs.Iterate.{iterate}
 use Rattle.qsm.specs.model.Event.{clock_limit, clocks, held}
@@ -28,6 +29,20 @@ meant m from now all pins rxd e f g =
     ap (λ (l : Look). first_of (changed l from rxd) all 1) e
     ∙ ap (λ (t : Module). first_of (changed (look m) t rxd) all 1) f
     ∙ ap (λ (n : ℕ). first_of (changed (look m) (held m pins) rxd) n 1) g
+
+-- Four tests, of which one fails: as `!=` groups them, and as `same_look` does.
+apart : (p q r s differ : Bool) → differ ≡ not (p && (q && (r && s))) → p && q && r && s ≡ not differ
+apart true true true true differ e = ap not (sym e)
+apart true true true false differ e = ap not (sym e)
+apart true true false s differ e = ap not (sym e)
+apart true false r s differ e = ap not (sym e)
+apart false q r s differ e = ap not (sym e)
+
+pub looks_apart : (a b : Look) (differ : Bool) →
+    differ ≡ not (eqb a.levels b.levels && (eqb a.mask b.mask && (eqb a.level b.level && eqb a.vector b.vector))) →
+    same_look a b ≡ not differ
+looks_apart a b differ e =
+    apart (eqb a.levels b.levels) (eqb a.mask b.mask) (eqb a.level b.level) (eqb a.vector b.vector) differ e
 
 -- Numbers.
 not_past : (i g : ℕ) → i - g ≡ 0 → i ≤ g

@@ -1,6 +1,6 @@
 -- For a host that sleeps: at given pins and RXD, the least number of clocks after which levels, mask, level or vector of an answer differ
 -- from those of an answer now, or none if they never will.
-use Rattle.std.specs.Prelude.{Bool, cond, not, ◌&&◌, Option, Some, None, ℕ, zero, suc, ◌+◌, ◌-◌, eqb}
+use Rattle.std.specs.Prelude.{Bool, cond, not, ◌&&◌, Option, Some, None, unwrap_or, ℕ, zero, suc, ◌+◌, ◌-◌, eqb}
 use Rattle.qsm.specs.model.Event.{answer_of, clock_limit, clocks, held}
 use Rattle.qsm.specs.declared.state.Module.{Module}
 use Rattle.qsm.specs.declared.event.Answer.{Answer}
@@ -32,5 +32,4 @@ until_change m pins rxd = first_of (differs m pins rxd) (clock_limit - m.clock) 
 
 -- As a number, 0 for none.
 abbrev pub number : Option ℕ → ℕ
-number (Some n) = n
-number None = 0
+number c = unwrap_or c 0

@@ -3,7 +3,7 @@
 
 ghost use Rattle.std.specs.Prelude.{◌≡◌, true, ◌+◌, ◌-◌, ◌≤◌, min};
 ghost use Rattle.qsm.specs.model.Event.{clock_limit, held, pins_of};
-ghost use Rattle.until_change.specs.Change.{look, same_look, number, until_change};
+ghost use Rattle.until_change.specs.Change.{look, until_change};
 ghost use Rattle.until_change.specs.Steady.{serial_steady, serial_still, steady, ahead, Returned};
 
 mod claims;
@@ -165,15 +165,4 @@ pub fn until_change(m: Module, pins: u8, rxd: bool) -> Option<u64>
         }
     }
     None
-}
-
-// The clocks of a change, 0 for none.
-// Ruled out: one less; a number for none.
-pub fn number(c: Change) -> u64
-    ensures { result ≡ number c }
-{
-    match c {
-        Some(n) => n,
-        None => 0,
-    }
 }
