@@ -6,14 +6,12 @@ pub(crate) fn find(text: &[u8], from: usize, c: u8) -> usize
     requires { from ≤ length text.now }
     ensures { (from ≤ result) × (result ≤ length text.now) }
 {
-    let mut at = from;
-    while at < text.len() {
+    for at in from..text.len() {
         if text[at] == c {
             return at;
         }
-        at += 1;
     }
-    at
+    text.len()
 }
 
 // The place behind another, in a text of n bytes; it lies behind an earlier one.
@@ -49,10 +47,8 @@ fn add_digit(out: &mut [u8], digits: usize, d: u8) -> usize {
 fn put_bytes(text: &[u8], out: &mut [u8]) -> usize {
     let end = find(text, 0, b'/');
     let mut digits: usize = 0;
-    let mut at: usize = 0;
-    while at < end {
-        digits = add_digit(out, digits, digit(text[at]));
-        at += 1;
+    for c in &text[..end] {
+        digits = add_digit(out, digits, digit(*c));
     }
     digits / 2
 }
@@ -74,14 +70,13 @@ fn next_number(n: usize, d: u8) -> usize {
 
 // The number that a text has behind its '/', or 20.
 pub(crate) fn room(text: &[u8]) -> usize {
-    let mut at = find(text, 0, b'/');
+    let at = find(text, 0, b'/');
     if at == text.len() {
         return 20;
     }
     let mut n: usize = 0;
-    while at < text.len() {
-        n = next_number(n, digit(text[at]));
-        at += 1;
+    for c in &text[at..] {
+        n = next_number(n, digit(*c));
     }
     n
 }

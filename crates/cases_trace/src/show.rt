@@ -38,44 +38,23 @@ fn field(place: usize) {
     }
 }
 
-fn byte(out: &[u8], at: usize) {
-    if at < out.len() {
-        field(at % ANSWER_LENGTH);
-        hex(out[at]);
-    }
+fn byte(at: usize, b: u8) {
+    field(at % ANSWER_LENGTH);
+    hex(b);
     if at % ANSWER_LENGTH == ANSWER_LENGTH - 1 {
         text(b"; ");
     }
 }
 
 fn answers(out: &[u8], written: usize) {
-    let mut at: usize = 0;
-    while at < written {
-        byte(out, at);
-        at += 1;
+    for (at, b) in out.iter().take(written).enumerate() {
+        byte(at, *b);
     }
 }
 
-// A byte past the answers is as it was.
-fn kept(out: &[u8], at: usize, written: usize) -> bool {
-    if at < written {
-        return true;
-    }
-    if at < out.len() {
-        return out[at] == FILL;
-    }
-    true
-}
-
-// So is each of n bytes.
-fn unchanged(out: &[u8], written: usize, n: usize) -> bool {
-    let mut all = true;
-    let mut at: usize = 0;
-    while at < n {
-        all = all & kept(out, at, written);
-        at += 1;
-    }
-    all
+// Each byte past the answers is as it was.
+fn unchanged(out: &[u8], written: usize) -> bool {
+    out.iter().skip(written).all(|b| *b == FILL)
 }
 
 fn rest(unchanged: bool) {
@@ -98,7 +77,7 @@ fn report(out: &[u8], stop: usize, read: usize, written: usize) {
     decimal(b"stop ", stop);
     decimal(b", read ", read);
     decimal(b", written ", written);
-    rest(unchanged(out, written, out.len()));
+    rest(unchanged(out, written));
 }
 
 // Plays a trace into an output, and prints the answers, how it stopped, and the bytes read and written. The module that it left.

@@ -4,6 +4,7 @@ use mathlib.Core.Bool.{Bool, true, false, cond, not, ◌&&◌}
 use mathlib.Core.List.{List, [], ◌∷◌, ◌++◌}
 use mathlib.Core.Option.{Option, none, some}
 use Prim.Native.Nat.{ℕ, zero, suc}
+use Rattle.std.specs.Prelude.{Some, None}
 use Rattle.sci.specs.model.Flags.{OR}
 use Rattle.sci.specs.model.Status.{has, raise, raise_if}
 use Rattle.sci.specs.model.Receiver.{outcome}
@@ -22,7 +23,6 @@ use Rattle.qsm.specs.declared.event.Access.TheVariants.{Read, Write}
 use Rattle.qsm.specs.declared.event.Event.TheVariants.{Reset, Hold}
 use Rattle.qsm.specs.declared.event.Event.TheVariants as event
 use Rattle.reception.specs.Arrival.{fills, figure_of}
-use Rattle.reception.specs.declared.arrival.Arrival.TheVariants.{Came, Nothing}
 use Rattle.claims_histories.specs.History.{after, receiver_read, played_clocks, fresh_word, clock_marks}
 use Rattle.claims_histories.proofs.Follows.{follows}
 use Rattle.claims_words.specs.Words.{Word, brought, clock_words, bits_of, figures_of, came}
@@ -94,7 +94,7 @@ event_told (event.Access a) m = none_told m (after (event.Access a) m) (access_c
 pub figure_told : FigureTold
 figure_told m left = go (fills m left)
   where
-    go : (b : Bool) → figures_of (cond b (in_scdr left ∷ []) []) ≡ figure_of (cond b (Came left.sci.receiver.noise) Nothing)
+    go : (b : Bool) → figures_of (cond b (in_scdr left ∷ []) []) ≡ figure_of (cond b (Some left.sci.receiver.noise) None)
     go true = refl
     go false = refl
 

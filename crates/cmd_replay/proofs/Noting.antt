@@ -5,6 +5,7 @@ use mathlib.Core.List.{List, [], ◌∷◌, ◌++◌, append-nil, append_assoc}
 use Prim.Native.Nat.{ℕ, ◌*◌, ◌<◌}
 use native.Mathlib.Omega.{arith}
 use lib.ListN.{length}
+use Rattle.std.specs.Prelude.{Some, None}
 use Rattle.sci.specs.model.Flags.{RDRF}
 use Rattle.sci.specs.model.Status.{has}
 use Rattle.qsm.specs.model.State.{reset_module}
@@ -13,7 +14,6 @@ use Rattle.qsm.specs.declared.state.Module.{Module}
 use Rattle.qsm.specs.declared.event.Event.{Event}
 use Rattle.reception.specs.Arrival.{arrival, figure_of, figures}
 use Rattle.reception.specs.Tally.{tally_of, with_arrival}
-use Rattle.reception.specs.declared.arrival.Arrival.TheVariants.{Came, Nothing}
 use Rattle.reception.specs.declared.tally.Tally.{Tally}
 use Rattle.reception.proofs.Tallies.{tally_goes_on}
 use Rattle.trace.specs.Trace.{parsed, answer_length}
@@ -35,7 +35,7 @@ use Rattle.cmd_replay.proofs.Reaching.{played_on}
 still : (m : Module) → [] ≡ figure_of (arrival m m)
 still m = go (has m.sci.status RDRF)
   where
-    go : (b : Bool) → [] ≡ figure_of (cond (not b && b) (Came m.sci.receiver.noise) Nothing)
+    go : (b : Bool) → [] ≡ figure_of (cond (not b && b) (Some m.sci.receiver.noise) None)
     go true = refl
     go false = refl
 

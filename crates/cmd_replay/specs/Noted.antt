@@ -1,10 +1,8 @@
 -- A trace played record by record, and the tally of the words that it brought.
-use Rattle.std.specs.Prelude.{List, [], ◌≡◌, ℕ}
+use Rattle.std.specs.Prelude.{List, [], Option, Some, None, ◌≡◌, ℕ}
 use Rattle.qsm.specs.model.State.{reset_module}
 use Rattle.reception.specs.Arrival.{arrival, figures}
 use Rattle.reception.specs.Tally.{tally_of, with_arrival}
-use Rattle.reception.specs.declared.arrival.Arrival.{Arrival}
-use Rattle.reception.specs.declared.arrival.Arrival.TheVariants.{Came, Nothing}
 use Rattle.reception.specs.declared.tally.Tally.{Tally}
 use Rattle.text.specs.Noise.{noise_line}
 use Rattle.trace.specs.Records.{events, leaves}
@@ -13,9 +11,9 @@ use Rattle.cmd_replay.specs.declared.piece.Run.{Run}
 use Rattle.cmd_replay.specs.declared.noise.Noted.{Noted}
 
 -- The line of a word behind those of a tally: its number, from 0, is how many came before it.
-abbrev pub arrival_text : Tally → Arrival → List ℕ
-arrival_text t (Came figure) = noise_line t.words figure
-arrival_text t Nothing = []
+abbrev pub arrival_text : Tally → Option ℕ → List ℕ
+arrival_text t (Some figure) = noise_line t.words figure
+arrival_text t None = []
 
 -- A turn, with the word that it brought.
 pub record Notices (n : Noted) (room : ℕ) (r : Noted) : Type 0 where

@@ -15,7 +15,7 @@ use console::output::{Out, flush, put_line};
 use files::origin::Origin;
 use files::system::{Sink, System};
 use qsm::state::Module;
-use reception::arrival::{Arrival, arrived};
+use reception::arrival::arrived;
 use reception::tally::Tally;
 
 // A run, the tally of its words, and where their lines go.
@@ -33,17 +33,12 @@ pub fn error_output(err: &Sink) -> Out {
 
 // The line of the word that comes after those of the tally: its number, from 0, is how many came before it.
 // Ruled out: a line of no word; the number of another word.
-fn put_arrival(tally: Tally, a: Arrival, err: &Sink, out: Out, buf: &mut [u8]) -> Out
-    ensures { Gives out buf.old (arrival_text tally a) result buf.new }
+fn put_arrival(tally: Tally, arrival: Option<u8>, err: &Sink, out: Out, buf: &mut [u8]) -> Out
+    ensures { Gives out buf.old (arrival_text tally arrival) result buf.new }
 {
-    match a {
-        Arrival::Came(figure) => put_line(
-            err,
-            out,
-            buf,
-            text::noise::noise_line(tally.words, figure),
-        ),
-        Arrival::Nothing => out,
+    match arrival {
+        Some(figure) => put_line(err, out, buf, text::noise::noise_line(tally.words, figure)),
+        None => out,
     }
 }
 

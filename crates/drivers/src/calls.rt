@@ -20,17 +20,6 @@ pub fn apply(d: &mut Shared, e: Event) -> Answer
     r.answer
 }
 
-// Ruled out: the axis driver for both; the drivers exchanged.
-pub fn driver_of(spindle: bool) -> Driver
-    ensures { result ≡ driver_of spindle }
-{
-    if spindle {
-        Driver::Spindle
-    } else {
-        Driver::Axis
-    }
-}
-
 // Ruled out: a later reset that changes s; a claim that outlives a reset.
 pub fn reset(d: Shared, split: u8) -> Stepped
     ensures { result ≡ step d (Reset split) }
@@ -68,7 +57,10 @@ pub fn read(d: Shared, spindle: bool, supervisor: bool, width: u8, offset: u16) 
 {
     step(
         d,
-        Event::Drive(driver_of(spindle), Access::Read(supervisor, width, offset)),
+        Event::Drive(
+            Driver::from(spindle),
+            Access::Read(supervisor, width, offset),
+        ),
     )
 }
 
@@ -86,7 +78,7 @@ pub fn write(
     step(
         d,
         Event::Drive(
-            driver_of(spindle),
+            Driver::from(spindle),
             Access::Write(supervisor, width, offset, value),
         ),
     )
@@ -96,12 +88,12 @@ pub fn write(
 pub fn claim(d: Shared, spindle: bool) -> Stepped
     ensures { result ≡ step d (Claim (driver_of spindle)) }
 {
-    step(d, Event::Claim(driver_of(spindle)))
+    step(d, Event::Claim(Driver::from(spindle)))
 }
 
 // Ruled out: a release by the other driver; a release with SPE set.
 pub fn release(d: Shared, spindle: bool) -> Stepped
     ensures { result ≡ step d (Release (driver_of spindle)) }
 {
-    step(d, Event::Release(driver_of(spindle)))
+    step(d, Event::Release(Driver::from(spindle)))
 }

@@ -5,7 +5,7 @@ ghost use Rattle.qsm.specs.model.Event.{answer_of};
 ghost use Rattle.drivers.specs.Event.{told, played, with_split, with_holder, fixed, restarted, refuses, does, step};
 
 use crate::reach::admits;
-use crate::state::{Driver, Shared, number_of, other, proper};
+use crate::state::{Driver, Shared, other, proper};
 use qsm::event::{Access, Answer};
 use qsm::state::Module;
 
@@ -105,19 +105,20 @@ impl Shared {
 
     // Refusal 9.
     // Ruled out: a release with SPE set; an access refused 9 before 2.
+    #[tactic(auto, unfolding(crate::specs::Event::refuses))]
     pub fn refuses(self, e: Event) -> bool
         ensures { result ≡ refuses self e }
     {
         match e {
             Event::Reset(split) => !self.begun() & !proper(split),
-            Event::Hold(_, _, _) => false,
-            Event::Access(_) => false,
+            Event::Hold(_, _, _) | Event::Access(_) => false,
             Event::Drive(who, a) => admits(self.qsm, a) & !self.allows(who, a),
             Event::Claim(who) => !self.begun() | self.holds(other(who)),
             Event::Release(who) => (!self.begun() | !self.holds(who)) | self.on(),
         }
     }
 
+    #[tactic(auto, unfolding(crate::specs::Event::does))]
     fn does(self, e: Event) -> Stepped
         ensures { result ≡ does self e }
     {
@@ -126,9 +127,8 @@ impl Shared {
             Event::Hold(pins, rxd, clocks) => self.played(qsm::event::Event::Hold(
                 pins, rxd, clocks,
             )),
-            Event::Access(a) => self.played(qsm::event::Event::Access(a)),
-            Event::Drive(_, a) => self.played(qsm::event::Event::Access(a)),
-            Event::Claim(who) => self.with_holder(number_of(who)).told(0),
+            Event::Access(a) | Event::Drive(_, a) => self.played(qsm::event::Event::Access(a)),
+            Event::Claim(who) => self.with_holder(u8::from(who)).told(0),
             Event::Release(_) => self.with_holder(0).told(0),
         }
     }

@@ -26,11 +26,8 @@ fn reaches_queue(
 {
     match w {
         QueueWord::Spcr0 => false,
-        QueueWord::Spcr1 => claimed,
-        QueueWord::Spcr2 => claimed,
-        QueueWord::Spcr3Spsr => claimed,
-        QueueWord::Receive(i) => owns(split, who, i as u16),
-        QueueWord::Transmit(i) => owns(split, who, i as u16),
+        QueueWord::Spcr1 | QueueWord::Spcr2 | QueueWord::Spcr3Spsr => claimed,
+        QueueWord::Receive(i) | QueueWord::Transmit(i) => owns(split, who, i as u16),
         QueueWord::Command(i) => {
             let first = (i as u16) * 2;
             (!upper | owns(split, who, first)) & (!lower | owns(split, who, first + 1))
@@ -85,13 +82,9 @@ fn writes_queue(
     ensures { result ≡ writes_queue split who regs w v upper lower }
 {
     match w {
-        QueueWord::Spcr0 => true,
         QueueWord::Spcr1 => writes_spcr1(split, who, regs, v, upper, lower),
         QueueWord::Spcr2 => writes_spcr2(split, who, regs, v, upper, lower),
-        QueueWord::Spcr3Spsr => true,
-        QueueWord::Receive(_) => true,
-        QueueWord::Transmit(_) => true,
-        QueueWord::Command(_) => true,
+        _ => true,
     }
 }
 
@@ -107,10 +100,8 @@ fn writes_word(
     ensures { result ≡ writes_word split who regs p v upper lower }
 {
     match p {
-        Place::Own(_) => true,
-        Place::Serial(_) => true,
         Place::Queue(w) => writes_queue(split, who, regs, w, v, upper, lower),
-        Place::Hole => true,
+        Place::Own(_) | Place::Serial(_) | Place::Hole => true,
     }
 }
 

@@ -1,6 +1,6 @@
 // The state that two drivers share, and who owns which entries of the queue.
 ghost use Rattle.std.specs.Prelude.{◌≡◌};
-ghost use Rattle.drivers.specs.State.{new_shared, other, number_of, holds, proper, begun, owns};
+ghost use Rattle.drivers.specs.State.{new_shared, other, number_of, driver_of, holds, proper, begun, owns};
 
 use qsm::state::Module;
 
@@ -32,12 +32,28 @@ pub fn other(who: Driver) -> Driver
 }
 
 // Ruled out: 0 for a driver; one number for both.
-pub fn number_of(who: Driver) -> u8
-    ensures { result ≡ number_of who }
-{
-    match who {
-        Driver::Axis => 1,
-        Driver::Spindle => 2,
+impl From<Driver> for u8 {
+    ghost from_gives = { λ who number. number ≡ number_of who };
+
+    fn from(who: Driver) -> u8 {
+        match who {
+            Driver::Axis => 1,
+            Driver::Spindle => 2,
+        }
+    }
+}
+
+// For a host in C: which driver calls.
+// Ruled out: the axis driver for both; the drivers exchanged.
+impl From<bool> for Driver {
+    ghost from_gives = { λ spindle who. who ≡ driver_of spindle };
+
+    fn from(spindle: bool) -> Driver {
+        if spindle {
+            Driver::Spindle
+        } else {
+            Driver::Axis
+        }
     }
 }
 
@@ -76,7 +92,7 @@ impl Shared {
     pub fn holds(self, who: Driver) -> bool
         ensures { result ≡ holds self who }
     {
-        self.holder == number_of(who)
+        self.holder == u8::from(who)
     }
 
     // The first reset has been.

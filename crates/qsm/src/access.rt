@@ -61,20 +61,20 @@ impl Module {
 
     // n words in address order, the first uppermost.
     // Ruled out: the second word first; the first word alone.
+    #[tactic(auto, unfolding(crate::specs::model::Access::fetched, steps::specs::Iterate::iterate))]
     pub fn fetched(self, at: u16, n: u8) -> u32
         ensures { result ≡ fetched self at n }
     {
         let mut w = Words { at, words: 0 };
-        let mut i: u8 = 0;
-        while i < n {
+        for _ in 0..n {
             w = self.fetch(w);
-            i += 1;
         }
         w.words
     }
 
     // n words written in address order, each tested against what the earlier ones leave.
     // Ruled out: the second word tested against the module before the first; the first alone tested.
+    #[tactic(auto, unfolding(crate::specs::model::Access::stored, steps::specs::Iterate::iterate))]
     pub fn stored(self, at: u16, n: u8, words: u32, upper: bool, lower: bool) -> Store
         ensures { result ≡ stored self at n words upper lower }
     {
@@ -85,10 +85,8 @@ impl Module {
             unmodelled: false,
             guarded: false,
         };
-        let mut i: u8 = 0;
-        while i < n {
+        for _ in 0..n {
             s = s.store(upper, lower);
-            i += 1;
         }
         s
     }

@@ -23,8 +23,7 @@ pub fn refusal_of(d: Decision) -> u8
     ensures { result ≡ refusal_of d }
 {
     match d {
-        Decision::Permitted => 0,
-        Decision::Blocked => 0,
+        Decision::Permitted | Decision::Blocked => 0,
         Decision::Misshapen => 1,
         Decision::Unmapped => 2,
         Decision::Unmodelled => 3,
@@ -55,18 +54,14 @@ pub fn fits(width: u8, value: u32) -> bool
 fn gate(shaped: bool, mapped: bool, barred: bool) -> Decision
     ensures { result ≡ gate shaped mapped barred }
 {
-    if shaped {
-        if mapped {
-            if barred {
-                Decision::Blocked
-            } else {
-                Decision::Permitted
-            }
-        } else {
-            Decision::Unmapped
-        }
-    } else {
+    if !shaped {
         Decision::Misshapen
+    } else if !mapped {
+        Decision::Unmapped
+    } else if barred {
+        Decision::Blocked
+    } else {
+        Decision::Permitted
     }
 }
 
@@ -75,12 +70,10 @@ fn verdict(unmodelled: bool, guarded: bool) -> Decision
 {
     if unmodelled {
         Decision::Unmodelled
+    } else if guarded {
+        Decision::Guarded
     } else {
-        if guarded {
-            Decision::Guarded
-        } else {
-            Decision::Permitted
-        }
+        Decision::Permitted
     }
 }
 
@@ -88,14 +81,7 @@ fn verdict(unmodelled: bool, guarded: bool) -> Decision
 pub fn permits(d: Decision) -> bool
     ensures { result ≡ permits d }
 {
-    match d {
-        Decision::Permitted => true,
-        Decision::Blocked => false,
-        Decision::Misshapen => false,
-        Decision::Unmapped => false,
-        Decision::Unmodelled => false,
-        Decision::Guarded => false,
-    }
+    matches!(d, Decision::Permitted)
 }
 
 // Refusals 3 and 4, where nothing came before them. A 3 in either half of a long comes before a 4.

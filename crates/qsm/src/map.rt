@@ -68,23 +68,13 @@ pub fn decode(offset: u32) -> Place
 pub fn mapped(p: Place) -> bool
     ensures { result ≡ mapped p }
 {
-    match p {
-        Place::Own(_) => true,
-        Place::Serial(_) => true,
-        Place::Queue(_) => true,
-        Place::Hole => false,
-    }
+    !matches!(p, Place::Hole)
 }
 
 fn own_restricted(w: OwnWord) -> bool
     ensures { result ≡ own_restricted w }
 {
-    match w {
-        OwnWord::Qsmcr => true,
-        OwnWord::QilrQivr => true,
-        OwnWord::Portqs => false,
-        OwnWord::PqsparDdrqs => false,
-    }
+    matches!(w, OwnWord::Qsmcr | OwnWord::QilrQivr)
 }
 
 // QSMCR, QILR and QIVR: never a user's.
@@ -94,8 +84,6 @@ pub fn restricted(p: Place) -> bool
 {
     match p {
         Place::Own(w) => own_restricted(w),
-        Place::Serial(_) => false,
-        Place::Queue(_) => false,
-        Place::Hole => false,
+        Place::Serial(_) | Place::Queue(_) | Place::Hole => false,
     }
 }

@@ -7,6 +7,7 @@ use crate::pins::outputs_of;
 use crate::state::Module;
 use steps::{merge, word};
 
+#[tactic(auto, unfolding(crate::specs::model::Own::peek_own))]
 fn portqs_word(m: Module) -> u16
     ensures { result ≡ peek_own m OwnWord.Portqs }
 {
@@ -76,13 +77,12 @@ impl Module {
 
 // Refusal 3: STOP and FRZ.
 // Ruled out: FRZ let through; a write of QSMCR's lower byte asked.
+#[tactic(auto, unfolding(crate::specs::model::Own::own_unmodelled))]
 pub fn own_unmodelled(w: OwnWord, v: u16, upper: bool) -> bool
     ensures { result ≡ own_unmodelled w v upper }
 {
     match w {
         OwnWord::Qsmcr => upper & (v / 0x2000 % 8 != 0),
-        OwnWord::QilrQivr => false,
-        OwnWord::Portqs => false,
-        OwnWord::PqsparDdrqs => false,
+        OwnWord::QilrQivr | OwnWord::Portqs | OwnWord::PqsparDdrqs => false,
     }
 }

@@ -6,6 +6,7 @@ use crate::map::QueueWord;
 use qspi::Qspi;
 
 // Ruled out: every read answered 0; a transmit word for a receive word.
+#[tactic(auto, unfolding(crate::specs::model::Queue::peek_queue))]
 pub fn peek_queue(q: Qspi, w: QueueWord) -> u16
     ensures { result ≡ peek_queue q w }
 {
@@ -22,6 +23,7 @@ pub fn peek_queue(q: Qspi, w: QueueWord) -> u16
 
 // What a read leaves that touches byte 1F.
 // Ruled out: nothing seen; a read that lets a flag fall.
+#[tactic(auto, unfolding(crate::specs::model::Queue::queue_read))]
 pub fn queue_read(q: Qspi, status: bool) -> Qspi
     ensures { result ≡ queue_read status q }
 {
@@ -30,6 +32,7 @@ pub fn queue_read(q: Qspi, status: bool) -> Qspi
 
 // A write of a word's bytes, with no test.
 // Ruled out: a write to another word; receive words that can't be written.
+#[tactic(auto, unfolding(crate::specs::model::Queue::put_queue))]
 pub fn put_queue(q: Qspi, w: QueueWord, v: u16, upper: bool, lower: bool) -> Qspi
     ensures { result ≡ put_queue q w v upper lower }
 {
@@ -46,32 +49,32 @@ pub fn put_queue(q: Qspi, w: QueueWord, v: u16, upper: bool, lower: bool) -> Qsp
 
 // Refusal 3.
 // Ruled out: WOMQ let through; SPE refused with MSTR set.
+#[tactic(auto, unfolding(crate::specs::model::Queue::queue_unmodelled))]
 pub fn queue_unmodelled(q: Qspi, w: QueueWord, v: u16, upper: bool) -> bool
     ensures { result ≡ queue_unmodelled q w v upper }
 {
     match w {
         QueueWord::Spcr0 => qspi::registers::spcr0_unmodelled(v, upper),
         QueueWord::Spcr1 => q.spcr1_unmodelled(v, upper),
-        QueueWord::Spcr2 => false,
         QueueWord::Spcr3Spsr => qspi::registers::spcr3_unmodelled(v, upper),
-        QueueWord::Receive(_) => false,
-        QueueWord::Transmit(_) => false,
-        QueueWord::Command(_) => false,
+        QueueWord::Spcr2 | QueueWord::Receive(_) | QueueWord::Transmit(_) | QueueWord::Command(_) =>
+            false,
     }
 }
 
 // Refusal 4.
 // Ruled out: SPCR2 guarded; DTL let through while SPE is set.
+#[tactic(auto, unfolding(crate::specs::model::Queue::queue_guarded))]
 pub fn queue_guarded(q: Qspi, w: QueueWord, v: u16, upper: bool, lower: bool) -> bool
     ensures { result ≡ queue_guarded q w v upper lower }
 {
     match w {
         QueueWord::Spcr0 => q.spcr0_guarded(v, upper, lower),
         QueueWord::Spcr1 => q.spcr1_guarded(v, upper, lower),
-        QueueWord::Spcr2 => false,
-        QueueWord::Spcr3Spsr => false,
-        QueueWord::Receive(_) => false,
-        QueueWord::Transmit(_) => false,
-        QueueWord::Command(_) => false,
+        QueueWord::Spcr2
+        | QueueWord::Spcr3Spsr
+        | QueueWord::Receive(_)
+        | QueueWord::Transmit(_)
+        | QueueWord::Command(_) => false,
     }
 }

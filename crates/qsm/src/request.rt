@@ -49,6 +49,7 @@ fn winner(queue: u8, serial: u8, qivr: u8) -> Request
 }
 
 // Ruled out: SCI on a tie; a half that does not ask.
+#[tactic(auto, unfolding(crate::specs::model::Request::request))]
 pub fn request_of(queue: bool, serial: bool, qilr: u8, qivr: u8) -> Request
     ensures { result ≡ request queue serial qilr qivr }
 {

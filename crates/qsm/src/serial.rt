@@ -7,6 +7,7 @@ use crate::map::SerialWord;
 use sci::serial::Sci;
 
 // Ruled out: every read answered 0; SCSR for SCDR.
+#[tactic(auto, unfolding(crate::specs::model::Serial::peek_serial))]
 pub fn peek_serial(s: Sci, w: SerialWord) -> u16
     ensures { result ≡ peek_serial s w }
 {
@@ -20,6 +21,7 @@ pub fn peek_serial(s: Sci, w: SerialWord) -> u16
 
 // What a read leaves that touches SCSR, SCDR's low byte, or both: status, then data.
 // Ruled out: RDRF left set after both; a status read that makes nothing seen.
+#[tactic(auto, unfolding(crate::specs::model::Serial::serial_read))]
 pub fn serial_read(s: Sci, status: bool, low: bool) -> Sci
     ensures { result ≡ serial_read status low s }
 {
@@ -40,6 +42,7 @@ fn data_read(s: Sci, low: bool) -> Sci
 
 // A write of a word's bytes, with no test. A write of SCSR does nothing.
 // Ruled out: SCSR written; SCCR1's bytes swapped.
+#[tactic(auto, unfolding(crate::specs::model::Serial::put_serial))]
 pub fn put_serial(s: Sci, w: SerialWord, v: u16, upper: bool, lower: bool) -> Sci
     ensures { result ≡ put_serial s w v upper lower }
 {
@@ -53,26 +56,25 @@ pub fn put_serial(s: Sci, w: SerialWord, v: u16, upper: bool, lower: bool) -> Sc
 
 // Refusal 3.
 // Ruled out: LOOPS let through; SBK asked of the upper byte.
+#[tactic(auto, unfolding(crate::specs::model::Serial::serial_unmodelled))]
 pub fn serial_unmodelled(w: SerialWord, v: u16, upper: bool, lower: bool) -> bool
     ensures { result ≡ serial_unmodelled w v upper lower }
 {
     match w {
-        SerialWord::Sccr0 => false,
         SerialWord::Sccr1 => sci::control::unmodelled(v, upper, lower),
-        SerialWord::Scsr => false,
-        SerialWord::Scdr => false,
+        SerialWord::Sccr0 | SerialWord::Scsr | SerialWord::Scdr => false,
     }
 }
 
 // Refusal 4.
 // Ruled out: SCCR0 let through while RE is set; SCDR guarded.
+#[tactic(auto, unfolding(crate::specs::model::Serial::serial_guarded))]
 pub fn serial_guarded(s: Sci, w: SerialWord, v: u16, upper: bool, lower: bool) -> bool
     ensures { result ≡ serial_guarded s w v upper lower }
 {
     match w {
         SerialWord::Sccr0 => s.sccr0_guarded(v, upper, lower),
         SerialWord::Sccr1 => s.sccr1_guarded(v, upper, lower),
-        SerialWord::Scsr => false,
-        SerialWord::Scdr => false,
+        SerialWord::Scsr | SerialWord::Scdr => false,
     }
 }

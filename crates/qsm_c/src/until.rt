@@ -11,5 +11,5 @@ use qsm::state::Module;
 pub extern "C" fn qsm_until_change(m: Module, pins: u8, rxd: bool) -> u64
     ensures { result ≡ number (until_change m pins rxd) }
 {
-    until_change::number(until_change::until_change(m, pins, rxd))
+    until_change::until_change(m, pins, rxd).unwrap_or(0)
 }

@@ -5,9 +5,9 @@ use Prim.Native.Nat.{ℕ, ◌+◌, max}
 use native.Mathlib.Omega.{arith}
 use lib.Dec.{ltb}
 use lib.ListN.{length, length-append}
+use Rattle.std.specs.Prelude.{Some, None}
 use Rattle.steps.specs.Bits.{digit}
 use Rattle.reception.specs.Tally.{up_to, noisy, worst, tally_of, with_figure}
-use Rattle.reception.specs.declared.arrival.Arrival.TheVariants.{Came, Nothing}
 use Rattle.reception.specs.Claims.{TallyGoesOn}
 
 noisy_more : (fs : List ℕ) (f : ℕ) → noisy (fs ++ (f ∷ [])) ≡ noisy fs + digit (ltb 0 f)
@@ -30,5 +30,5 @@ one_more fs f =
     )
 
 pub tally_goes_on : TallyGoesOn
-tally_goes_on fs (Came f) = one_more fs f
-tally_goes_on fs Nothing = ap tally_of (sym (append-nil fs))
+tally_goes_on fs (Some f) = one_more fs f
+tally_goes_on fs None = ap tally_of (sym (append-nil fs))

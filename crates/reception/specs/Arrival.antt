@@ -1,24 +1,22 @@
 -- Document 02, L1: whether a word entered SCDR within an event, told by the module before the event and the module after it.
-use Rattle.std.specs.Prelude.{Bool, cond, not, ◌&&◌, List, [], ◌∷◌, ◌++◌, ℕ}
+use Rattle.std.specs.Prelude.{Bool, cond, not, ◌&&◌, List, [], ◌∷◌, ◌++◌, Option, Some, None, ℕ}
 use Rattle.sci.specs.model.Flags.{RDRF}
 use Rattle.sci.specs.model.Status.{has}
 use Rattle.qsm.specs.model.Event.{step}
 use Rattle.qsm.specs.declared.state.Module.{Module}
 use Rattle.qsm.specs.declared.event.Event.{Event}
-use Rattle.reception.specs.declared.arrival.Arrival.{Arrival}
-use Rattle.reception.specs.declared.arrival.Arrival.TheVariants.{Came, Nothing}
 
 -- RDRF rises: a word came that has not been read, and none can come before it is.
 abbrev pub fills : Module → Module → Bool
 fills before after = not (has before.sci.status RDRF) && has after.sci.status RDRF
 
--- With the figure that stands beside SCDR.
-abbrev pub arrival : Module → Module → Arrival
-arrival before after = cond (fills before after) (Came after.sci.receiver.noise) Nothing
+-- The figure that stands beside SCDR, where a word came.
+abbrev pub arrival : Module → Module → Option ℕ
+arrival before after = cond (fills before after) (Some after.sci.receiver.noise) None
 
-abbrev pub figure_of : Arrival → List ℕ
-figure_of (Came figure) = figure ∷ []
-figure_of Nothing = []
+abbrev pub figure_of : Option ℕ → List ℕ
+figure_of (Some figure) = figure ∷ []
+figure_of None = []
 
 -- The figures that events bring, one event after the other.
 unfoldable pub figures : List Event → Module → List ℕ

@@ -1,5 +1,5 @@
 -- Words do come, noisy ones too, and frames are lost: a receiver that is about to take a frame, with SCDR free and with a word that waits there.
-use Rattle.std.specs.Prelude.{true, false, ◌≡◌}
+use Rattle.std.specs.Prelude.{true, false, Some, None, ◌≡◌}
 use Rattle.sci.specs.model.Flags.{RDRF}
 use Rattle.sci.specs.model.Status.{raise}
 use Rattle.sci.specs.model.Serial.{reset_sci}
@@ -10,7 +10,6 @@ use Rattle.qsm.specs.declared.state.Module.{Module}
 use Rattle.qsm.specs.declared.event.Event.TheVariants.{Hold}
 use Rattle.reception.specs.Arrival.{arrival}
 use Rattle.reception.specs.Report.{report}
-use Rattle.reception.specs.declared.arrival.Arrival.TheVariants.{Came, Nothing}
 use Rattle.reception.specs.declared.account.Report.{Report}
 
 -- The receiver on, with two clocks to a sample, before RT10 of a stop bit, with the bits of the letter A and a sum of 2 so far; of RT8 and RT9
@@ -51,8 +50,8 @@ abbrev pub one_clock : Module → Module
 one_clock m = (step m (Hold 0 true 1)).state
 
 pub record Examples : Type 0 where
-  pub comes : arrival free (one_clock free) ≡ Came 3
+  pub comes : arrival free (one_clock free) ≡ Some 3
   pub waits : ◌≡◌ {A = Report} (report (one_clock free)) (record { taken = 1; lost = 0; waiting = true })
   -- A lost frame brings nothing, its figure neither.
-  pub lost : arrival occupied (one_clock occupied) ≡ Nothing
+  pub lost : arrival occupied (one_clock occupied) ≡ None
   pub counts : ◌≡◌ {A = Report} (report (one_clock occupied)) (record { taken = 1; lost = 1; waiting = true })

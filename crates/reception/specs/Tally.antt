@@ -1,8 +1,6 @@
 -- The tally of noise figures: how many words there are, how many of them are noisy, and the worst figure.
-use Rattle.std.specs.Prelude.{List, [], ◌∷◌, ℕ, ◌+◌, ◌-◌, ◌^◌, min, max, ltb, length}
+use Rattle.std.specs.Prelude.{List, [], ◌∷◌, Option, Some, None, ℕ, ◌+◌, ◌-◌, ◌^◌, min, max, ltb, length}
 use Rattle.steps.specs.Bits.{digit}
-use Rattle.reception.specs.declared.arrival.Arrival.{Arrival}
-use Rattle.reception.specs.declared.arrival.Arrival.TheVariants.{Came, Nothing}
 use Rattle.reception.specs.declared.tally.Tally.{Tally}
 
 -- A count stays at the largest number.
@@ -27,6 +25,6 @@ abbrev pub with_figure : Tally → ℕ → Tally
 with_figure t f =
     record { words = up_to (t.words + 1); noisy = up_to (t.noisy + digit (ltb 0 f)); worst = max t.worst f }
 
-abbrev pub with_arrival : Tally → Arrival → Tally
-with_arrival t (Came f) = with_figure t f
-with_arrival t Nothing = t
+abbrev pub with_arrival : Tally → Option ℕ → Tally
+with_arrival t (Some f) = with_figure t f
+with_arrival t None = t

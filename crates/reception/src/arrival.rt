@@ -5,13 +5,6 @@ ghost use Rattle.reception.specs.Arrival.{fills, arrival};
 use qsm::state::Module;
 use sci::flags::Flags;
 
-// A word that entered SCDR within an event, by its noise figure.
-#[derive(Clone, Copy)]
-pub enum Arrival {
-    Came(u8),
-    Nothing,
-}
-
 fn fills(before: Module, after: Module) -> bool
     ensures { result ≡ fills before after }
 {
@@ -22,14 +15,14 @@ fn fills(before: Module, after: Module) -> bool
     !status.has(Flags::RDRF) & now.has(Flags::RDRF)
 }
 
-// What came from before an event to after it. At most one word can.
+// The noise figure of the word that entered SCDR from before an event to after it. At most one can.
 // Ruled out: a word that waits told again; a lost frame's figure.
-pub fn arrived(before: Module, after: Module) -> Arrival
+pub fn arrived(before: Module, after: Module) -> Option<u8>
     ensures { result ≡ arrival before after }
 {
     if fills(before, after) {
-        Arrival::Came(after.noise())
+        Some(after.noise())
     } else {
-        Arrival::Nothing
+        None
     }
 }

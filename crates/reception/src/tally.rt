@@ -3,8 +3,6 @@ ghost use Rattle.std.specs.Prelude.{◌≡◌, [], ◌+◌};
 ghost use Rattle.steps.specs.Bits.{digit};
 ghost use Rattle.reception.specs.Tally.{up_to, tally_of, with_figure, with_arrival};
 
-use crate::arrival::Arrival;
-
 // How many words there are, how many of them are noisy, and the worst figure.
 #[derive(Clone, Copy)]
 pub struct Tally {
@@ -50,12 +48,12 @@ impl Tally {
     }
 
     // Ruled out: a word counted where none came; one left out.
-    pub fn with_arrival(self, a: Arrival) -> Tally
-        ensures { result ≡ with_arrival self a }
+    pub fn with_arrival(self, arrival: Option<u8>) -> Tally
+        ensures { result ≡ with_arrival self arrival }
     {
-        match a {
-            Arrival::Came(figure) => self.with_figure(figure),
-            Arrival::Nothing => self,
+        match arrival {
+            Some(figure) => self.with_figure(figure),
+            None => self,
         }
     }
 }

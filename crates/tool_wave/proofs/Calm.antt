@@ -6,6 +6,7 @@ use native.Mathlib.Omega.{arith}
 use mathlib.Core.List.{List, [], ◌∷◌, ◌++◌}
 use lib.Dec.{eqb, ltb}
 use borrow.Author.Tests.{eq-eqb, ne_eqb, eqb-true}
+use Rattle.std.specs.Prelude.{Option, Some, None}
 use Rattle.steps.specs.Iterate.{iterate}
 use Rattle.qspi.specs.model.Fields.{spe}
 use Rattle.qspi.specs.model.Outputs.{enabled}
@@ -19,8 +20,6 @@ use Rattle.qsm.proofs.Clocks.{apart}
 use Rattle.qsm.proofs.Limit.{is_room}
 use Rattle.until_change.specs.Change.{look, same_look, differs, number, until_change}
 use Rattle.until_change.specs.declared.Look.{Look}
-use Rattle.until_change.specs.declared.Change.{Change}
-use Rattle.until_change.specs.declared.Change.TheVariants.{After, Nothing}
 use Rattle.until_change.specs.Claims.{after}
 use Rattle.until_change.proofs.Later.{shown_laws}
 use Rattle.tool_wave.specs.View.{none, kept_edge, over, alike, same_view}
@@ -58,14 +57,14 @@ module _ (m : Module) (rxd : Bool) where
   abbrev on : ℕ → Module
   on i = iterate i (clock_module rxd) m
 
-  looks_by : (c : Change) → until_change m m.inputs rxd ≡ c → (i : ℕ) → 1 ≤ i → i ≤ before (number c) → passes m i ≡ false →
+  looks_by : (c : Option ℕ) → until_change m m.inputs rxd ≡ c → (i : ℕ) → 1 ≤ i → i ≤ before (number c) → passes m i ≡ false →
       differs m m.inputs rxd i ≡ false
   unfolding after
-  looks_by (After n) is i some few lets =
+  looks_by (Some n) is i some few lets =
       let l = shown_laws.least m m.inputs rxd n is in
       let early : before n ≡ min (n - 1) 4294967295 = rw (ne_eqb n 0 (λ z. omega (arith, l.1))) in
       l.3 i some (omega (arith, l.1, early, few))
-  looks_by Nothing is i some few lets =
+  looks_by None is i some few lets =
       shown_laws.of_a_hold m m.inputs rxd i lets ∙ ap not (shown_laws.never m m.inputs rxd is [] i)
 
   looks : (i : ℕ) → i ≤ before (number (until_change m m.inputs rxd)) → i ≤ clock_limit - m.clock → look (on i) ≡ look m

@@ -7,7 +7,7 @@ ghost use Rattle.tool_wave.specs.Probe.{started, view_of, ends, tick, restarted,
 use crate::view::{Kept, View};
 use qsm::event::{Access, Event};
 use qsm::state::Module;
-use until_change::{number, room, shown, until_change, wires, within};
+use until_change::{room, shown, until_change, wires, within};
 
 // The clocks since the start of the trace, which a reset leaves; whether a record has been played, and a hold; RXD as the last hold gave it;
 // what the clock of a last edge keeps; and the module.
@@ -175,7 +175,7 @@ impl Probe {
         if kept.on {
             return 0;
         }
-        let n = number(until_change(device, device.inputs, self.rxd));
+        let n = until_change(device, device.inputs, self.rxd).unwrap_or(0);
         within(room(device.clock), before(n).min(q.quiet(wires(device))))
     }
 }

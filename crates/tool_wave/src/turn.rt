@@ -15,7 +15,7 @@ fn told(from: Probe, to: Probe, refusal: u8) -> Outcome
 {
     let before = from.view();
     let after = to.view();
-    if before.same(after) & (refusal == 0) {
+    if (before == after) & (refusal == 0) {
         return Outcome::Nothing;
     }
     Outcome::Drawn(Step {

@@ -61,26 +61,17 @@ const CLOCK_LIMIT: u8 = 10;
 pub fn parse(rest: &[u8]) -> Parsed
     ensures { result ≡ parsed rest.now }
 {
-    if rest.len() == 0 {
+    if rest.is_empty() {
         return Parsed::Cut;
     }
-    let kind = rest[0];
-    if kind == RESET {
-        return Parsed::Record(Event::Reset, 1);
+    match rest[0] {
+        RESET => Parsed::Record(Event::Reset, 1),
+        HOLD => fields::hold(rest),
+        READ => fields::read(rest),
+        WRITE => fields::write(rest),
+        LONG_HOLD => fields::long_hold(rest),
+        _ => Parsed::Unknown,
     }
-    if kind == HOLD {
-        return fields::hold(rest);
-    }
-    if kind == READ {
-        return fields::read(rest);
-    }
-    if kind == WRITE {
-        return fields::write(rest);
-    }
-    if kind == LONG_HOLD {
-        return fields::long_hold(rest);
-    }
-    Parsed::Unknown
 }
 
 // Why a trace stops before what is no whole record.
@@ -122,25 +113,7 @@ fn put_answer(left: &mut [u8], a: Answer)
     requires { answer_length ≤ length left.old }
     ensures { left.new ≡ answer_bytes a ++ drop answer_length left.old }
 {
-    let bytes = answer_bytes(a);
-    left[0] = bytes[0];
-    left[1] = bytes[1];
-    left[2] = bytes[2];
-    left[3] = bytes[3];
-    left[4] = bytes[4];
-    left[5] = bytes[5];
-    left[6] = bytes[6];
-    left[7] = bytes[7];
-    left[8] = bytes[8];
-    left[9] = bytes[9];
-    left[10] = bytes[10];
-    left[11] = bytes[11];
-    left[12] = bytes[12];
-    left[13] = bytes[13];
-    left[14] = bytes[14];
-    left[15] = bytes[15];
-    left[16] = bytes[16];
-    left[17] = bytes[17];
+    left[..ANSWER_LENGTH].copy_from_slice(&answer_bytes(a));
 }
 
 // Plays a trace on a module, with its answers into a lent output.

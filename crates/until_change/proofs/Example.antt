@@ -3,6 +3,7 @@ use mathlib.Core.Bool.{Bool, true, false}
 use mathlib.Core.Path.{◌≡◌, refl, ap, ◌∙◌}
 use Prim.Native.Nat.{ℕ, zero, suc, ◌+◌, ◌-◌, ◌<◌, ◌≤◌}
 use native.Mathlib.Omega.{arith}
+use Rattle.std.specs.Prelude.{Some, None}
 use Rattle.steps.specs.Iterate.{iterate}
 use Rattle.sci.specs.model.Serial.{clocked}
 use Rattle.sci.specs.model.Status.{has}
@@ -24,7 +25,6 @@ use Rattle.qsm.specs.model.Event.{answer_of, clock_limit, clock_module, clocks, 
 use Rattle.until_change.specs.Change.{look, differs, first_of, until_change}
 use Rattle.until_change.specs.Steady.{ahead, serial_still}
 use Rattle.until_change.specs.Claims.{started}
-use Rattle.until_change.specs.declared.Change.TheVariants.{After, Nothing}
 use Rattle.until_change.proofs.First.{found, passes, nothing}
 use Rattle.until_change.proofs.Turns.{changed}
 use Rattle.until_change.proofs.Returning.{for_ever}
@@ -58,7 +58,7 @@ begins : started.clock ≡ 0
 unfolding does writes refused answer_of request mask owned own_levels levels clocks clock_module iterate store stored stored_by decide_stored admitted in_map is_restricted decode peek put unmodelled guarded peek_queue put_queue queue_unmodelled queue_guarded reset_module reset write_spcr1 clocked has clock queue_clock start_clock play_clock edge bits_of pre_delay delay_after mosi_after collected_after
 begins = refl
 
-pub met : until_change started 0xFF true ≡ After 4
+pub met : until_change started 0xFF true ≡ Some 4
 unfolding until_change
 met = ap (λ (n : ℕ). first_of shows (clock_limit - n) 1) begins ∙ passes shows 3 (clock_limit - 3) 1 before ∙ found shows (clock_limit - 4) 4 fourth
 
@@ -77,7 +77,7 @@ back : (ahead 0 true (held reset_module 0xFF)).qspi ≡ (ahead 1 true (held rese
 unfolding reset_module reset iterate clock queue_clock
 back = refl
 
-pub none_met : until_change reset_module 0xFF true ≡ Nothing
+pub none_met : until_change reset_module 0xFF true ≡ None
 unfolding until_change
 none_met =
     nothing (differs reset_module 0xFF true) (clock_limit - reset_module.clock) 1

@@ -3,10 +3,10 @@ use mathlib.Core.Bool.{Bool, true, false}
 use mathlib.Core.Path.{◌≡◌, sym, ap, ◌∙◌}
 use Prim.Native.Nat.{ℕ, zero, suc, ◌+◌, ◌<◌}
 use native.Mathlib.Omega.{arith}
+use Rattle.std.specs.Prelude.{Some, None}
 use Rattle.until_change.specs.Change.{first_of}
-use Rattle.until_change.specs.declared.Change.TheVariants.{After, Nothing}
 
-pub found : (p : ℕ → Bool) (r n : ℕ) → p n ≡ true → first_of p (suc r) n ≡ After n
+pub found : (p : ℕ → Bool) (r n : ℕ) → p n ≡ true → first_of p (suc r) n ≡ Some n
 unfolding first_of
 found p r n h = rw h
 
@@ -29,7 +29,7 @@ passes p (suc k) r n h =
     moved : (j : ℕ) → n + 1 + j ≡ n + suc j
     moved j = omega arith
 
-pub nothing : (p : ℕ → Bool) (k n : ℕ) → ((j : ℕ) → j < k → p (n + j) ≡ false) → first_of p k n ≡ Nothing
+pub nothing : (p : ℕ → Bool) (k n : ℕ) → ((j : ℕ) → j < k → p (n + j) ≡ false) → first_of p k n ≡ None
 unfolding first_of
 nothing p k n h =
     let whole : k ≡ k + zero = omega arith in

@@ -5,6 +5,7 @@ use mathlib.Core.Path.{◌≡◌, refl, sym, ap, ◌∙◌}
 use Prim.Native.Nat.{ℕ, zero, suc, ◌+◌, ◌-◌}
 use native.Mathlib.Omega.{arith}
 use borrow.Author.Tests.{eq-eqb, not-false}
+use Rattle.std.specs.Prelude.{None}
 use Rattle.steps.specs.Iterate.{iterate}
 use Rattle.qsm.specs.model.Event.{answer_of, clock_limit, passes, clocks, step}
 use Rattle.qsm.specs.declared.state.Module.{Module}
@@ -16,7 +17,6 @@ use Rattle.qsm.proofs.Splitting.{splits, refused_in_parts}
 use Rattle.until_change.specs.Change.{look_of, look, same_look, differs, until_change}
 use Rattle.until_change.specs.Claims.{Never, Claims, after}
 use Rattle.until_change.specs.declared.Look.{Look}
-use Rattle.until_change.specs.declared.Change.TheVariants.{Nothing}
 use Rattle.until_change.proofs.Leastly.{least, none_found, of_a_hold}
 use Rattle.until_change.proofs.Example.{met, none_met}
 
@@ -24,7 +24,7 @@ same_as_itself : (l : Look) → same_look l l ≡ true
 same_as_itself l =
     rw (eq-eqb l.levels l.levels refl, eq-eqb l.mask l.mask refl, eq-eqb l.level l.level refl, eq-eqb l.vector l.vector refl)
 
-module _ (m : Module) (pins : ℕ) (rxd : Bool) (none : until_change m pins rxd ≡ Nothing) where
+module _ (m : Module) (pins : ℕ) (rxd : Bool) (none : until_change m pins rxd ≡ None) where
   abbrev hold : Module → ℕ → Stepped
   hold s n = step s (Hold pins rxd n)
 

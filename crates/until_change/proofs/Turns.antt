@@ -1,15 +1,16 @@
 -- A turn of the search: k steady clocks, from a module that has come so far that `left` of all clocks are left. Assumes nothing.
-use mathlib.Core.Bool.{Bool, true, false, not}
+use mathlib.Core.Bool.{Bool, true, false, not, ◌&&◌}
 use mathlib.Core.Path.{◌≡◌, refl, sym, ap, ◌∙◌}
 use Prim.Native.Nat.{ℕ, zero, suc, ◌+◌, ◌-◌, ◌<◌, ◌≤◌, min}
 use native.Mathlib.Omega.{arith}
+use lib.Dec.{eqb}
+use Rattle.std.specs.Prelude.{Some}
 use Rattle.steps.specs.Iterate.{iterate}
 use Rattle.qsm.specs.model.Event.{clock_limit, clocks, held}
 use Rattle.qsm.specs.declared.state.Module.{Module}
 use Rattle.until_change.specs.Change.{look, same_look, first_of, until_change}
 use Rattle.until_change.specs.Steady.{ahead, steady}
 use Rattle.until_change.specs.declared.Look.{Look}
-use Rattle.until_change.specs.declared.Change.TheVariants.{After}
 use Rattle.until_change.proofs.First.{found, passes}
 use Rattle.until_change.proofs.Steadily.{steady_look, look_ahead, ahead_add}
 
@@ -28,6 +29,20 @@ meant m from now all pins rxd e f g =
     ap (λ (l : Look). first_of (changed l from rxd) all 1) e
     ∙ ap (λ (t : Module). first_of (changed (look m) t rxd) all 1) f
     ∙ ap (λ (n : ℕ). first_of (changed (look m) (held m pins) rxd) n 1) g
+
+-- Four tests, of which one fails: as `!=` groups them, and as `same_look` does.
+apart : (p q r s differ : Bool) → differ ≡ not (p && (q && (r && s))) → p && q && r && s ≡ not differ
+apart true true true true differ e = ap not (sym e)
+apart true true true false differ e = ap not (sym e)
+apart true true false s differ e = ap not (sym e)
+apart true false r s differ e = ap not (sym e)
+apart false q r s differ e = ap not (sym e)
+
+pub looks_apart : (a b : Look) (differ : Bool) →
+    differ ≡ not (eqb a.levels b.levels && (eqb a.mask b.mask && (eqb a.level b.level && eqb a.vector b.vector))) →
+    same_look a b ≡ not differ
+looks_apart a b differ e =
+    apart (eqb a.levels b.levels) (eqb a.mask b.mask) (eqb a.level b.level) (eqb a.vector b.vector) differ e
 
 -- Numbers.
 not_past : (i g : ℕ) → i - g ≡ 0 → i ≤ g
@@ -74,7 +89,7 @@ module _ (now : Look) (m s : Module) (rxd : Bool) (all left k : ℕ) (enough : l
           ap (changed now m rxd) here ∙ each j (inside all left k i j enough some.1 high here) ∙ ap not same
 
   -- Else the first of them is the change.
-  pub ends : same_look now (look (ahead k rxd s)) ≡ false → first_of (changed now m rxd) all 1 ≡ After (all - left + 1)
+  pub ends : same_look now (look (ahead k rxd s)) ≡ false → first_of (changed now m rxd) all 1 ≡ Some (all - left + 1)
   ends other =
       let sum : all ≡ all - left + left = omega arith in
       let parts : left ≡ suc (left - 1) = omega arith in

@@ -1,12 +1,10 @@
 -- For a host that sleeps: at given pins and RXD, the least number of clocks after which levels, mask, level or vector of an answer differ
 -- from those of an answer now, or none if they never will.
-use Rattle.std.specs.Prelude.{Bool, cond, not, ◌&&◌, ℕ, zero, suc, ◌+◌, ◌-◌, eqb}
+use Rattle.std.specs.Prelude.{Bool, cond, not, ◌&&◌, Option, Some, None, unwrap_or, ℕ, zero, suc, ◌+◌, ◌-◌, eqb}
 use Rattle.qsm.specs.model.Event.{answer_of, clock_limit, clocks, held}
 use Rattle.qsm.specs.declared.state.Module.{Module}
 use Rattle.qsm.specs.declared.event.Answer.{Answer}
 use Rattle.until_change.specs.declared.Look.{Look}
-use Rattle.until_change.specs.declared.Change.{Change}
-use Rattle.until_change.specs.declared.Change.TheVariants.{After, Nothing}
 
 -- What of an answer is compared, and what an answer of m shows.
 abbrev pub look_of : Answer → Look
@@ -24,15 +22,14 @@ abbrev pub differs : Module → ℕ → Bool → ℕ → Bool
 differs m pins rxd n = not (same_look (look m) (look (clocks (held m pins) rxd n)))
 
 -- The first of k numbers, from n on, that is so.
-unfoldable pub first_of : (ℕ → Bool) → ℕ → ℕ → Change
-first_of p zero n = Nothing
-first_of p (suc k) n = cond (p n) (After n) (first_of p k (n + 1))
+unfoldable pub first_of : (ℕ → Bool) → ℕ → ℕ → Option ℕ
+first_of p zero n = None
+first_of p (suc k) n = cond (p n) (Some n) (first_of p k (n + 1))
 
 -- No clock comes after 2^64 - 1 since reset: every hold is refused then.
-unfoldable pub until_change : Module → ℕ → Bool → Change
+unfoldable pub until_change : Module → ℕ → Bool → Option ℕ
 until_change m pins rxd = first_of (differs m pins rxd) (clock_limit - m.clock) 1
 
 -- As a number, 0 for none.
-abbrev pub number : Change → ℕ
-number (After n) = n
-number Nothing = 0
+abbrev pub number : Option ℕ → ℕ
+number c = unwrap_or c 0

@@ -3,7 +3,7 @@
 
 ghost use Rattle.std.specs.Prelude.{◌≡◌, true, ◌+◌, ◌-◌, ◌≤◌, min};
 ghost use Rattle.qsm.specs.model.Event.{clock_limit, held, pins_of};
-ghost use Rattle.until_change.specs.Change.{look, same_look, number, until_change};
+ghost use Rattle.until_change.specs.Change.{look, until_change};
 ghost use Rattle.until_change.specs.Steady.{serial_steady, serial_still, steady, ahead, Returned};
 
 mod claims;
@@ -18,19 +18,12 @@ use sci::serial::Sci;
 const LONGEST: u32 = 4294967295;
 
 // What an answer shows beside refusal and value.
-#[derive(Clone, Copy)]
+#[derive(Clone, Copy, PartialEq, Eq)]
 pub struct Look {
     pub levels: u8,
     pub mask: u8,
     pub level: u8,
     pub vector: u8,
-}
-
-// The clocks after which an answer shows something else, or none: it never will.
-#[derive(Clone, Copy)]
-pub enum Change {
-    After(u64),
-    Nothing,
 }
 
 // What an answer now would show.
@@ -47,18 +40,6 @@ pub fn shown(m: Module) -> Look
         mask: pins.mask(),
         level: asked.level,
         vector: asked.vector,
-    }
-}
-
-impl Look {
-    // Ruled out: pins compared without which are driven; a vector that changed alone passed over.
-    pub fn same(self, b: Look) -> bool
-        ensures { result ≡ same_look self b }
-    {
-        (self.levels == b.levels)
-            & (self.mask == b.mask)
-            & (self.level == b.level)
-            & (self.vector == b.vector)
     }
 }
 
@@ -154,10 +135,10 @@ pub fn room(clock: u64) -> u64
 }
 
 // The least number of clocks, at these levels of the pins and of RXD, after which an answer shows other pins or another request than one
-// now; nothing where no clock that the module can count would show it. The module is not changed. A state is kept and looked for again, and
+// now; none where no clock that the module can count would show it. The module is not changed. A state is kept and looked for again, and
 // another one is kept when twice its clocks are gone: so a search that finds nothing ends soon after the halves have come to rest or gone round.
-// Ruled out: a clock later than the change; the change of a later hold; 1 for want of a better answer; nothing for a change that is far.
-pub fn until_change(m: Module, pins: u8, rxd: bool) -> Change
+// Ruled out: a clock later than the change; the change of a later hold; 1 for want of a better answer; none for a change that is far.
+pub fn until_change(m: Module, pins: u8, rxd: bool) -> Option<u64>
     ensures { result ≡ until_change m pins rxd }
 {
     let now = shown(m);
@@ -170,28 +151,17 @@ pub fn until_change(m: Module, pins: u8, rxd: bool) -> Change
         let k = within(left, steady(s, rxd));
         s = ahead(s, k, rxd);
         let then = shown(s);
-        if !now.same(then) {
-            return Change::After(all - left + 1);
+        if now != then {
+            return Some(all - left + 1);
         }
         left -= k as u64;
         if returned(kept, s, rxd) {
-            return Change::Nothing;
+            return None;
         }
         if all - kept_left <= (all - left) / 2 {
             kept = s;
             kept_left = left;
         }
     }
-    Change::Nothing
-}
-
-// The clocks of a change, 0 for none.
-// Ruled out: one less; a number for none.
-pub fn number(c: Change) -> u64
-    ensures { result ≡ number c }
-{
-    match c {
-        Change::After(n) => n,
-        Change::Nothing => 0,
-    }
+    None
 }

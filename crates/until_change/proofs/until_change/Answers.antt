@@ -1,12 +1,12 @@
 use mathlib.Core.Path.{◌≡◌, sym, ap, ◌∙◌}
-use mathlib.Core.Bool.{true, false}
+use mathlib.Core.Bool.{true, false, not}
 use Prim.Native.Nat.{ℕ, ◌+◌, ◌-◌, ◌≤◌, ◌<◌, min}
 use native.Mathlib.Omega.{arith}
 use Rattle.qsm.specs.declared.state.Module.{Module}
 use Rattle.until_change.specs.Change.{look, same_look}
 use Rattle.until_change.specs.Steady.{ahead, steady, serial_still}
 use Rattle.until_change.proofs.First.{nothing}
-use Rattle.until_change.proofs.Turns.{changed, begins, meant, some, goes_on, ends, stands}
+use Rattle.until_change.proofs.Turns.{changed, looks_apart, begins, meant, some, goes_on, ends, stands}
 use Rattle.until_change.proofs.Returning.{comes_back}
 use Rattle.until_change.proofs.until_change.Goals as goal
 
@@ -26,8 +26,8 @@ overflow_sub-result c = omega (arith, c.loop-left.invariant.0, c.loop-left.invar
 pub overflow_add-result : goal.overflow_add-result
 overflow_add-result c = omega (arith, c.loop-left.invariant.0, c.loop-left.invariant.1, c.loop-left-test.true)
 
-pub returns-then-not-same : goal.returns-then-not-same
-returns-then-not-same c =
+pub returns-then-ne : goal.returns-then-ne
+returns-then-ne c =
     let s = c.loop-left.s in
     let left = c.loop-left.left in
     let rxd = c.args.rxd in
@@ -43,7 +43,7 @@ returns-then-not-same c =
     let then : c.shown-then.result ≡ look (ahead k rxd s) =
     c.shown-then.ensures ∙ ap look c.ahead-s.ensures in
     let other : same_look now (look (ahead k rxd s)) ≡ false =
-    ap (same_look now) (sym then) ∙ sym c.same.ensures ∙ c.if-not-same.true in
+    ap (same_look now) (sym then) ∙ looks_apart now c.shown-then.result c.ne.result c.ne.ensures ∙ ap not c.if-ne.true in
     let sizes = some now from s rxd all left k enough more c.loop-left.invariant.2 f many c.loop-left.invariant.4 in
     sym (ends now from s rxd all left k enough more c.loop-left.invariant.2 f many c.loop-left.invariant.4 other)
     ∙ meant c.args.m from now all c.args.pins rxd c.shown-now.ensures c.held-s.ensures c.room-all.ensures
@@ -68,7 +68,7 @@ returns-then-returned c =
     let then : c.shown-then.result ≡ look (ahead k rxd s) =
     c.shown-then.ensures ∙ ap look c.ahead-s.ensures in
     let same : same_look now (look (ahead k rxd s)) ≡ true =
-    ap (same_look now) (sym then) ∙ sym c.same.ensures ∙ c.if-not-same.false in
+    ap (same_look now) (sym then) ∙ looks_apart now c.shown-then.result c.ne.result c.ne.ensures ∙ ap not c.if-ne.false in
     let none = goes_on now from s rxd all left k enough more c.loop-left.invariant.2 f many c.loop-left.invariant.4 same in
     let sizes = some now from s rxd all left k enough more c.loop-left.invariant.2 f many c.loop-left.invariant.4 in
     let kept_left = c.loop-left.kept_left in
@@ -108,7 +108,7 @@ loop-left-preserved-then-all-kept_left c =
     let then : c.shown-then.result ≡ look (ahead k rxd s) =
     c.shown-then.ensures ∙ ap look c.ahead-s.ensures in
     let same : same_look now (look (ahead k rxd s)) ≡ true =
-    ap (same_look now) (sym then) ∙ sym c.same.ensures ∙ c.if-not-same.false in
+    ap (same_look now) (sym then) ∙ looks_apart now c.shown-then.result c.ne.result c.ne.ensures ∙ ap not c.if-ne.false in
     let none = goes_on now from s rxd all left k enough more c.loop-left.invariant.2 f many c.loop-left.invariant.4 same in
     let sizes = some now from s rxd all left k enough more c.loop-left.invariant.2 f many c.loop-left.invariant.4 in
     let here = c.ahead-s.ensures ∙ stands now from s rxd all left k enough more c.loop-left.invariant.2 f many c.loop-left.invariant.4 in
@@ -134,7 +134,7 @@ loop-left-preserved c =
     let then : c.shown-then.result ≡ look (ahead k rxd s) =
     c.shown-then.ensures ∙ ap look c.ahead-s.ensures in
     let same : same_look now (look (ahead k rxd s)) ≡ true =
-    ap (same_look now) (sym then) ∙ sym c.same.ensures ∙ c.if-not-same.false in
+    ap (same_look now) (sym then) ∙ looks_apart now c.shown-then.result c.ne.result c.ne.ensures ∙ ap not c.if-ne.false in
     let none = goes_on now from s rxd all left k enough more c.loop-left.invariant.2 f many c.loop-left.invariant.4 same in
     let sizes = some now from s rxd all left k enough more c.loop-left.invariant.2 f many c.loop-left.invariant.4 in
     let here = c.ahead-s.ensures ∙ stands now from s rxd all left k enough more c.loop-left.invariant.2 f many c.loop-left.invariant.4 in

@@ -12,7 +12,7 @@ returns c =
       c.wires.ensures,
       c.before-2.ensures,
       c.room.ensures,
-      c.number-n.ensures,
+      c.unwrap_or-n.ensures,
       c.until_change.ensures,
       c.if-kept.false,
     )
