@@ -5,16 +5,14 @@ use files::message::{fail, say, say_first};
 use files::origin::Origin;
 use files::output::write_first;
 use files::system::{Sink, System};
-use run::{Next, Turned};
+use run::Stop;
 use text::line::Line;
 use tool_assemble::item::Fault;
 
 mod run;
 
 fn say_line(line: Line) {
-    let n = line.length;
-    let bytes = line.bytes;
-    say_first(b"assemble", &bytes, n);
+    say_first(b"assemble", &line.bytes, line.length);
 }
 
 fn with_fault(line: Line, fault: Fault) -> Line {
@@ -36,32 +34,20 @@ fn place(line: u64, column: u64) -> Line {
         .write(b": ")
 }
 
-// What is wrong is said, with its place; whether nothing is.
-fn good(t: Turned, name: &[u8], path: &[u8], from: &Origin, to: &Sink) -> bool {
-    let r = t.run;
-    let next = t.next;
-    match next {
-        Next::Done => true,
-        Next::Bad(fault, column) => {
-            say_line(with_fault(place(r.number, column), fault));
-            false
+// Why the text is not assembled, with the place.
+fn say_stop(stop: Stop, name: &[u8], path: &[u8], from: &Origin, to: &Sink) {
+    match stop {
+        Stop::Bad {
+            line,
+            column,
+            fault,
+        } => say_line(with_fault(place(line, column), fault)),
+        Stop::TooLong { line } => {
+            say_line(place(line, 1025).write(b"a line of more than 1,024 bytes\n"));
         }
-        Next::TooLong => {
-            say_line(place(r.number, 1025).write(b"a line of more than 1,024 bytes\n"));
-            false
-        }
-        Next::NotRead => {
-            fail(b"assemble", name, from.error());
-            false
-        }
-        Next::NotWritten => {
-            fail(b"assemble", path, to.error());
-            false
-        }
-        Next::More => {
-            say(b"assemble", b"input too long\n");
-            false
-        }
+        Stop::NotRead => fail(b"assemble", name, from.error()),
+        Stop::NotWritten => fail(b"assemble", path, to.error()),
+        Stop::TooMuch => say(b"assemble", b"input too long\n"),
     }
 }
 
@@ -71,9 +57,7 @@ fn print_count<R: System>(rt: &R, records: u64) {
         .write(b"records ")
         .decimal(20, records)
         .put(10);
-    let n = line.length;
-    let bytes = line.bytes;
-    if !write_first(&output, &bytes, n) {
+    if !write_first(&output, &line.bytes, line.length) {
         fail(b"assemble", b"standard output", output.error());
     }
 }
@@ -86,11 +70,16 @@ fn make<R: System>(rt: &R, from: &Origin, name: &[u8], path: &[u8]) {
     let Some(sink) = o.sink else {
         return;
     };
-    let t = run::assemble(rt, from, &sink);
-    let whole = good(t, name, path, from, &sink);
-    if files::output::finish(rt, b"assemble", sink, &beside[..n], path, whole) {
-        let r = t.run;
-        print_count(rt, r.records);
+    match run::assemble(rt, from, &sink) {
+        Ok(records) => {
+            if files::output::finish(rt, b"assemble", sink, &beside[..n], path, true) {
+                print_count(rt, records);
+            }
+        }
+        Err(stop) => {
+            say_stop(stop, name, path, from, &sink);
+            files::output::finish(rt, b"assemble", sink, &beside[..n], path, false);
+        }
     }
 }
 

@@ -3,268 +3,138 @@ ghost use Rattle.std.specs.Prelude.{◌≤◌};
 
 use files::origin::Origin;
 use files::output::write_first;
-use files::pieces::{counted, fill, least};
+use files::pieces::fill;
 use files::system::{Sink, System};
 use qsm::event::Event;
 use tool_assemble::encode::encode;
-use tool_assemble::item::{Fault, Item};
-use tool_assemble::sent::Sent;
+use tool_assemble::item::{Fault, Item, parse};
+use tool_assemble::sent::{Sent, bit_hold, first};
 
+// Why a text is not assembled: a line, by its number from 1, and the column; or the input or the trace.
 #[derive(Clone, Copy)]
-pub enum Next {
-    More,
-    Done,
-    Bad(Fault, u64),
-    TooLong,
+pub enum Stop {
+    Bad {
+        line: u64,
+        column: u64,
+        fault: Fault,
+    },
+    TooLong {
+        line: u64,
+    },
     NotRead,
     NotWritten,
+    TooMuch,
 }
 
 // Where a run stands: the bytes of a line that are there, its number from 1, and the records written.
-#[derive(Clone, Copy)]
-pub struct Run {
-    pub line: [u8; 1024],
-    pub have: usize,
-    pub number: u64,
-    pub records: u64,
+#[derive(Drop)]
+struct Run {
+    line: [u8; 1024],
+    have: usize,
+    number: u64,
+    records: u64,
+    ghost inside: { have ≤ 1024 },
 }
 
-#[derive(Clone, Copy)]
-pub struct Turned {
-    pub run: Run,
-    pub next: Next,
-}
-
-fn write_record(to: &Sink, kind: u8, e: Event) -> bool {
+fn write_record(to: &Sink, kind: u8, e: Event) -> Result<(), Stop> {
     let r = encode(kind, e);
-    let n = r.length;
-    let bytes = r.bytes;
-    write_first(to, &bytes, n)
+    if write_first(to, &r.bytes, r.length) {
+        Ok(())
+    } else {
+        Err(Stop::NotWritten)
+    }
 }
 
 // The holds of a character, whose first bit is bit k of the text.
-fn send_byte(to: &Sink, s: Sent, byte: u8, k: u32) -> bool
+fn send_byte(to: &Sink, s: Sent, byte: u8, k: u32) -> Result<(), Stop>
     requires { k ≤ 4294967000 }
 {
-    let mut i: u8 = 0;
-    while i < 10 {
-        let b = tool_assemble::sent::bit_hold(s, byte, i, k + i as u32);
-        let e = b.event;
-        if !write_record(to, b.kind, e) {
-            return false;
+    for i in 0..10 {
+        let b = bit_hold(s, byte, i, k + i as u32);
+        write_record(to, b.kind, b.event)?;
+    }
+    Ok(())
+}
+
+// The holds of a text, from its start in a line on: at most 1,024 characters. How many holds they are.
+fn send(to: &Sink, s: Sent, line: &[u8]) -> Result<u64, Stop> {
+    let mut at = line.len().saturating_sub(s.start);
+    for k in 0..1024u32 {
+        let c = first(&line[at..]);
+        if c.length == 0 {
+            return Ok(k as u64 * 10);
         }
-        i += 1;
+        send_byte(to, s, c.byte, k * 10)?;
+        at += c.length;
     }
-    true
+    Ok(10240)
 }
 
-// The records written, and whether they could be.
-#[derive(Clone, Copy)]
-struct Wrote {
-    ok: bool,
-    records: u64,
-}
-
-// The holds of a text, from its start in a line on: at most 1,024 characters.
-fn send(to: &Sink, s: Sent, line: &[u8]) -> Wrote {
-    let mut k: u32 = 0;
-    let start = least(s.start, line.len());
-    let mut at = line.len() - start;
-    while k < 10240 {
-        let c = tool_assemble::sent::first(&line[at..]);
-        let n = least(c.length, line.len() - at);
-        if n == 0 {
-            return Wrote {
-                ok: true,
-                records: k as u64,
-            };
+impl Run {
+    fn start() -> Run {
+        Run {
+            line: [0; 1024],
+            have: 0,
+            number: 1,
+            records: 0,
         }
-        if !send_byte(to, s, c.byte, k) {
-            return Wrote {
-                ok: false,
-                records: 0,
-            };
+    }
+
+    // A line has ended: what it says is written.
+    fn end_line(&mut self, to: &Sink) -> Result<(), Stop> {
+        let line = &self.line[..self.have];
+        let written = match parse(line) {
+            Ok(None) => 0,
+            Ok(Some(Item::Record(kind, e))) => {
+                write_record(to, kind, e)?;
+                1
+            }
+            Ok(Some(Item::Text(s))) => send(to, s, line)?,
+            Err(wrong) => {
+                return Err(Stop::Bad {
+                    line: self.number,
+                    column: self.have.saturating_sub(wrong.left) as u64 + 1,
+                    fault: wrong.fault,
+                });
+            }
+        };
+        self.records = self.records.saturating_add(written);
+        Ok(())
+    }
+
+    // One byte more.
+    fn take(&mut self, to: &Sink, b: u8) -> Result<(), Stop> {
+        if b == b'\n' {
+            self.end_line(to)?;
+            self.have = 0;
+            self.number = self.number.saturating_add(1);
+            return Ok(());
         }
-        k += 10;
-        at += n;
-    }
-    Wrote {
-        ok: true,
-        records: k as u64,
-    }
-}
-
-fn start() -> Run {
-    Run {
-        line: [0u8; 1024],
-        have: 0,
-        number: 1,
-        records: 0,
+        if self.have == 1024 {
+            return Err(Stop::TooLong { line: self.number });
+        }
+        self.line[self.have] = b;
+        self.have += 1;
+        Ok(())
     }
 }
 
-fn written(run: Run, w: Wrote) -> Turned {
-    if !w.ok {
-        return Turned {
-            run,
-            next: Next::NotWritten,
-        };
-    }
-    let mut now = run;
-    now.records = counted(now.records, w.records as usize);
-    Turned {
-        run: now,
-        next: Next::More,
-    }
-}
-
-// The column, from 1, of a place with so many bytes of the line from there on.
-fn column(length: usize, left: usize) -> u64 {
-    if left <= length {
-        return counted((length - left) as u64, 1);
-    }
-    1
-}
-
-// What the first n bytes of a buffer say.
-fn said(bytes: &[u8], n: usize) -> Item {
-    let some = least(n, bytes.len());
-    tool_assemble::item::parse(&bytes[..some])
-}
-
-fn send_first(to: &Sink, s: Sent, bytes: &[u8], n: usize) -> Wrote {
-    let some = least(n, bytes.len());
-    send(to, s, &bytes[..some])
-}
-
-// A line has ended.
-fn ended(to: &Sink, run: Run) -> Turned {
-    let line = run.line;
-    let n = run.have;
-    let i = said(&line, n);
-    match i {
-        Item::Nothing => Turned {
-            run,
-            next: Next::More,
-        },
-        Item::Record(kind, e) => written(
-            run,
-            Wrote {
-                ok: write_record(to, kind, e),
-                records: 1,
-            },
-        ),
-        Item::Text(s) => written(run, send_first(to, s, &line, n)),
-        Item::Bad(fault, left) => Turned {
-            run,
-            next: Next::Bad(fault, column(n, left)),
-        },
-    }
-}
-
-// The next line, where nothing was wrong with this one.
-fn renewed(t: Turned) -> Turned {
-    let next = t.next;
-    let Next::More = next else {
-        return t;
-    };
-    let mut run = t.run;
-    let number = counted(run.number, 1);
-    run.have = 0;
-    run.number = number;
-    Turned {
-        run,
-        next: Next::More,
-    }
-}
-
-// One byte more.
-fn take(to: &Sink, run: Run, b: u8) -> Turned {
-    if b == 10 {
-        return renewed(ended(to, run));
-    }
-    let mut now = run;
-    let at = now.have;
-    if at < 1024 {
-        now.line[at] = b;
-        now.have = at + 1;
-        return Turned {
-            run: now,
-            next: Next::More,
-        };
-    }
-    Turned {
-        run: now,
-        next: Next::TooLong,
-    }
-}
-
-// The bytes of a buffer, one after the other.
-fn take_all(to: &Sink, run: Run, bytes: &[u8]) -> Turned {
-    let mut now = run;
-    let mut i = 0;
-    while i < bytes.len() {
-        let t = take(to, now, bytes[i]);
-        let next = t.next;
-        let Next::More = next else {
-            return t;
-        };
-        let after = t.run;
-        now = after;
-        i += 1;
-    }
-    Turned {
-        run: now,
-        next: Next::More,
-    }
-}
-
-// The end of the text ends its last line.
-fn finish(to: &Sink, run: Run) -> Turned {
-    let t = ended(to, run);
-    let next = t.next;
-    let Next::More = next else {
-        return t;
-    };
-    let after = t.run;
-    Turned {
-        run: after,
-        next: Next::Done,
-    }
-}
-
-// Reads once and takes what is there.
-fn turn<R: System>(rt: &R, from: &Origin, to: &Sink, run: Run, buf: &mut [u8]) -> Turned {
-    let f = fill(rt, from, buf, 0, false);
-    if f.failed {
-        return Turned {
-            run,
-            next: Next::NotRead,
-        };
-    }
-    if f.ended {
-        return finish(to, run);
-    }
-    let n = f.total;
-    take_all(to, run, &buf[..n])
-}
-
-pub fn assemble<R: System>(rt: &R, from: &Origin, to: &Sink) -> Turned {
+// The records of a text: how many they are. The end of the text ends its last line.
+pub fn assemble<R: System>(rt: &R, from: &Origin, to: &Sink) -> Result<u64, Stop> {
     let mut buf = io::large_buffer();
-    let mut run = start();
-    let mut turns = u64::MAX;
-    while turns > 0 {
-        let t = turn(rt, from, to, run, &mut buf);
-        let next = t.next;
-        let Next::More = next else {
-            return t;
-        };
-        let after = t.run;
-        run = after;
-        turns -= 1;
+    let mut run = Run::start();
+    for _ in 0..u64::MAX {
+        let f = fill(rt, from, &mut buf, 0, false);
+        if f.failed {
+            return Err(Stop::NotRead);
+        }
+        if f.ended {
+            run.end_line(to)?;
+            return Ok(run.records);
+        }
+        for b in &buf[..f.total] {
+            run.take(to, *b)?;
+        }
     }
-    Turned {
-        run,
-        next: Next::More,
-    }
+    Err(Stop::TooMuch)
 }

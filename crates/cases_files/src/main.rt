@@ -2,18 +2,17 @@
 #![tactic(auto)]
 
 use files::system::System;
-use text::number::Number;
 
 fn print_number<R: System>(rt: &R, k: usize) {
     let mut word = io::buffer();
     let n = files::command::word(rt, k, &mut word);
     let number = text::number::parse_number(&word[..n]);
     match number {
-        Number::Is(v) => {
+        Some(v) => {
             io::print_decimal(1, v);
             io::write_all(1, b"\n");
         }
-        Number::NoNumber => {
+        None => {
             io::write_all(1, b"no number\n");
         }
     }

@@ -9,6 +9,7 @@ use lib.Seq.{drop-append_seam}
 use Rattle.qsm.specs.declared.event.Access.TheVariants.{Read, Write}
 use Rattle.qsm.specs.declared.event.Event.TheVariants as events
 use Rattle.trace.specs.Trace.{read_kind, write_kind}
+use Rattle.std.specs.Prelude.{Result, Ok}
 use Rattle.text.specs.Digits.{ascii, decimal, hex_word, hex_long}
 use Rattle.text.specs.Register.{registers}
 use Rattle.tool_assemble.specs.Scan.{scan_from}
@@ -17,6 +18,7 @@ use Rattle.tool_assemble.specs.declared.scan.Numbers.{Numbers}
 use Rattle.tool_assemble.proofs.Reading.{scan_end}
 use Rattle.tool_assemble.specs.declared.item.Item.{Item}
 use Rattle.tool_assemble.specs.declared.item.Item.TheVariants.{Record}
+use Rattle.tool_assemble.specs.declared.item.Wrong.{Wrong}
 use Rattle.claims_assembling.proofs.Digits.{hex_least, decimal_first}
 use Rattle.claims_assembling.proofs.Steps.{bytes_step, gap_step, number_step, push, offset_read, value_read, decimal_field, suffix, plain}
 use Rattle.claims_assembling.proofs.Names.{registers_first, name_length_holds, own_name}
@@ -68,9 +70,9 @@ behind_scan true offset value small fits = write_scan offset value small fits
 
 -- ---- from the names on
 
-abbrev pub made : Bool → Bool → ℕ → ℕ → ℕ → Item
-made false supervisor width offset value = Record read_kind (events.Access (Read supervisor width offset))
-made true supervisor width offset value = Record write_kind (events.Access (Write supervisor width offset value))
+abbrev pub made : Bool → Bool → ℕ → ℕ → ℕ → Result Item Wrong
+made false supervisor width offset value = Ok (Record read_kind (events.Access (Read supervisor width offset)))
+made true supervisor width offset value = Ok (Record write_kind (events.Access (Write supervisor width offset value)))
 
 at_item : (writes supervisor : Bool) (width offset value : ℕ) (r : List ℕ) → offset < 65536 → value < 4294967296 →
     access_at writes supervisor width (registers width offset ++ r) (length (registers width offset)) (given writes offset value) ≡ made writes supervisor width offset value
@@ -102,7 +104,7 @@ abbrev pub width_t : ℕ → List ℕ → List ℕ
 width_t width t = ascii "width" ++ (32 ∷ (decimal 3 width ++ (44 ∷ 32 ∷ t)))
 
 width_scan : (width : ℕ) (t : List ℕ) → width < 128 → 33 ≤ get_or t 0 0 →
-    scan_from (32 ∷ width_p) (32 ∷ width_t width t) none ≡ record { ok = true; left = length t; numbers = push none width }
+    scan_from (32 ∷ width_p) (32 ∷ width_t width t) none ≡ Ok (record { left = length t; numbers = push none width })
 width_scan width t small begun =
     let first : 48 ≤ get_or (decimal 3 width ++ (44 ∷ 32 ∷ t)) 0 0 = (decimal_first 3 width (44 ∷ 32 ∷ t) (omega arith)).0 in
     gap_step width_p (width_t width t) none (omega arith)
@@ -123,7 +125,7 @@ module _ (v w : List ℕ) (plain-v : plain v ≡ true) (plain-w : plain w ≡ tr
   text width t = v ++ (32 ∷ (ascii "as" ++ (32 ∷ (w ++ (32 ∷ width_t width t)))))
 
   front_scan : (width : ℕ) (t : List ℕ) → width < 128 → 33 ≤ get_or t 0 0 →
-      scan_from pattern (text width t) none ≡ record { ok = true; left = length t; numbers = push none width }
+      scan_from pattern (text width t) none ≡ Ok (record { left = length t; numbers = push none width })
   front_scan width t small begun =
       bytes_step v (32 ∷ (ascii "as" ++ (32 ∷ (w ++ (32 ∷ width_p))))) (32 ∷ (ascii "as" ++ (32 ∷ (w ++ (32 ∷ width_t width t))))) none plain-v
       ∙ gap_step (ascii "as" ++ (32 ∷ (w ++ (32 ∷ width_p)))) (ascii "as" ++ (32 ∷ (w ++ (32 ∷ width_t width t)))) none (omega arith)

@@ -9,42 +9,47 @@ use lib.ListN.{length, get_or}
 use Rattle.qsm.specs.declared.event.Access.TheVariants.{Read, Write}
 use Rattle.qsm.specs.declared.event.Event.TheVariants as events
 use Rattle.trace.specs.Trace.{read_kind, write_kind}
+use Rattle.std.specs.Prelude.{Err, is_err}
 use Rattle.text.specs.Digits.{ascii, decimal, hex_word, hex_long, number}
 use Rattle.text.specs.Register.{registers}
 use Rattle.text.specs.Record.{place, access, event}
 use Rattle.tool_assemble.specs.Scan.{blanks_from, literal, element, scan_from}
-use Rattle.tool_assemble.specs.Item.{access_pattern, access_item, hold_item, holds, reads, writes, entries, item}
-use Rattle.tool_assemble.specs.declared.item.Item.TheVariants.{Bad}
-use Rattle.tool_assemble.specs.declared.item.Fault.{Fault}
+use Rattle.tool_assemble.specs.Item.{access_pattern, access_item, hold_item, holds, reads, writes, entries, said, item}
+use Rattle.tool_assemble.specs.declared.item.Item.{Item}
+use Rattle.tool_assemble.specs.declared.item.Wrong.{Wrong}
 use Rattle.tool_assemble.specs.declared.item.Fault.TheVariants.{NotUnderstood}
 use Rattle.claims_assembling.specs.Laws.{ReadsGiveBack, WritesGiveBack}
-use Rattle.claims_assembling.proofs.Lines.{printed_is, numbered, wrong, past}
+use Rattle.claims_assembling.proofs.Lines.{printed_is, numbered, past}
 use Rattle.claims_assembling.proofs.AccessItems.{rest, made, width_t, text, access_item_holds}
 
 -- ---- which of the entries it is
 
-wrong_both : (f g : Fault) (l m : ℕ) (further : Bool) → wrong (cond further (Bad g m) (Bad f l)) ≡ true
-wrong_both f g l m true = refl
-wrong_both f g l m false = refl
+-- A pattern that fails at a text's first byte.
+abbrev stuck : List ℕ → Wrong
+stuck t = record { fault = NotUnderstood; left = length t }
 
-no_hold : (t : List ℕ) → wrong (holds (114 ∷ t)) ≡ true
+wrong_both : (w : Wrong) (further : Bool) → is_err {T = Item} {E = Wrong} (cond further (Err w) (Err w)) ≡ true
+wrong_both w true = refl
+wrong_both w false = refl
+
+no_hold : (t : List ℕ) → is_err (holds (114 ∷ t)) ≡ true
 unfolding holds hold_item scan_from element literal
-no_hold t = wrong_both NotUnderstood NotUnderstood (length (114 ∷ t)) (length (114 ∷ t)) (ltb (length (114 ∷ t)) (length (114 ∷ t)))
+no_hold t = wrong_both (stuck (114 ∷ t)) (ltb (length (114 ∷ t)) (length (114 ∷ t)))
 
-no_hold_2 : (t : List ℕ) → wrong (holds (119 ∷ t)) ≡ true
+no_hold_2 : (t : List ℕ) → is_err (holds (119 ∷ t)) ≡ true
 unfolding holds hold_item scan_from element literal
-no_hold_2 t = wrong_both NotUnderstood NotUnderstood (length (119 ∷ t)) (length (119 ∷ t)) (ltb (length (119 ∷ t)) (length (119 ∷ t)))
+no_hold_2 t = wrong_both (stuck (119 ∷ t)) (ltb (length (119 ∷ t)) (length (119 ∷ t)))
 
-no_read : (t : List ℕ) → wrong (reads (119 ∷ t)) ≡ true
+no_read : (t : List ℕ) → is_err (reads (119 ∷ t)) ≡ true
 unfolding reads access_item scan_from element literal
-no_read t = wrong_both NotUnderstood NotUnderstood (length (119 ∷ t)) (length (119 ∷ t)) (ltb (length (119 ∷ t)) (length (119 ∷ t)))
+no_read t = wrong_both (stuck (119 ∷ t)) (ltb (length (119 ∷ t)) (length (119 ∷ t)))
 
 -- A user is no supervisor.
-other_read : (t : List ℕ) → wrong (access_item false true (access_pattern false true) (ascii "read as user" ++ t)) ≡ true
+other_read : (t : List ℕ) → is_err (access_item false true (access_pattern false true) (ascii "read as user" ++ t)) ≡ true
 unfolding access_item scan_from element literal blanks_from
 other_read t = refl
 
-other_write : (t : List ℕ) → wrong (access_item true true (access_pattern true true) (ascii "write as user" ++ t)) ≡ true
+other_write : (t : List ℕ) → is_err (access_item true true (access_pattern true true) (ascii "write as user" ++ t)) ≡ true
 unfolding access_item scan_from element literal blanks_from
 other_write t = refl
 
@@ -133,7 +138,7 @@ reads_give_back n supervisor width offset few small =
     ap item (printed_is n read_kind (events.Access (Read supervisor width offset)))
     ∙ ap (λ (t : List ℕ). item (number n ++ t)) (read_spelled supervisor width offset)
     ∙ numbered n (read_t supervisor width (names false width offset 0)) (read_first supervisor width (names false width offset 0))
-    ∙ read_entry supervisor width offset few small
+    ∙ ap said (read_entry supervisor width offset few small)
 
 pub writes_give_back : WritesGiveBack
 unfolding event
@@ -141,4 +146,4 @@ writes_give_back n supervisor width offset value few small fits =
     ap item (printed_is n write_kind (events.Access (Write supervisor width offset value)))
     ∙ ap (λ (t : List ℕ). item (number n ++ t)) (write_spelled supervisor width offset value)
     ∙ numbered n (write_t supervisor width (names true width offset value)) (write_first supervisor width (names true width offset value))
-    ∙ write_entry supervisor width offset value few small fits
+    ∙ ap said (write_entry supervisor width offset value few small fits)

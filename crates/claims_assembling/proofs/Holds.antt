@@ -9,21 +9,23 @@ use lib.Dec.{eqb}
 use lib.ListN.{length, get_or}
 use Rattle.qsm.specs.declared.event.Event.TheVariants.{Reset, Hold}
 use Rattle.trace.specs.Trace.{reset_kind, hold_kind, long_hold_kind}
+use Rattle.std.specs.Prelude.{Result, Ok, Err}
 use Rattle.text.specs.Digits.{ascii, decimal, hex_byte}
 use Rattle.text.specs.Record.{hold, event}
 use Rattle.tool_assemble.specs.Scan.{takes, digits, limit, numeral, blanks_from, closed, literal, element, scan_from}
-use Rattle.tool_assemble.specs.Item.{hold_item, hold_pattern, long_hold_pattern, holds, reads, writes, reset_item, line_item, access_item, entries, item}
+use Rattle.tool_assemble.specs.Item.{hold_item, hold_pattern, long_hold_pattern, holds, reads, writes, reset_item, line_item, access_item, entries, said, item}
 use Rattle.tool_assemble.specs.declared.scan.Numbers.{Numbers}
 use Rattle.tool_assemble.specs.declared.scan.Found.{Found}
-use Rattle.tool_assemble.specs.declared.item.Item.TheVariants.{Record, Bad}
+use Rattle.tool_assemble.specs.declared.item.Item.TheVariants.{Record}
+use Rattle.tool_assemble.specs.declared.item.Wrong.{Wrong}
 use Rattle.tool_assemble.specs.declared.item.Fault.TheVariants.{NotUnderstood}
 use Rattle.claims_assembling.specs.Laws.{HoldsGiveBack, ResetsGiveBack}
 use Rattle.claims_assembling.proofs.Digits.{hex_least, decimal_first}
 use Rattle.claims_assembling.proofs.Steps.{bytes_step, gap_step, number_step, push, found, pins_read, decimal_field}
 use Rattle.claims_assembling.proofs.Lines.{printed_is, numbered}
 
-abbrev pub whole : Numbers → Found
-whole n = record { ok = true; left = 0; numbers = n }
+abbrev pub whole : Numbers → Result Found Wrong
+whole n = Ok (record { left = 0; numbers = n })
 
 pub end_step : (n : Numbers) → scan_from (31 ∷ []) [] n ≡ whole n
 unfolding scan_from element closed blanks_from
@@ -129,7 +131,7 @@ is_one false = refl
 
 hold_item_holds : (kind : ℕ) (pattern t : List ℕ) (pins : ℕ) (rxd : Bool) (clocks : ℕ) → pins < 256 → clocks < 4294967296 →
     scan_from pattern t none ≡ whole (record { first = pins; second = cond rxd 1 0; third = clocks }) →
-    hold_item kind pattern t ≡ Record kind (Hold pins rxd clocks)
+    hold_item kind pattern t ≡ Ok (Record kind (Hold pins rxd clocks))
 unfolding hold_item
 hold_item_holds kind pattern t pins rxd clocks byte small is =
     let same : pins % 256 ≡ pins = omega arith in
@@ -137,11 +139,11 @@ hold_item_holds kind pattern t pins rxd clocks byte small is =
     rw (is, is_one rxd, same, all)
 
 -- A long hold is no hold.
-other_item : (t : List ℕ) → hold_item hold_kind hold_pattern (108 ∷ t) ≡ Bad NotUnderstood (length (108 ∷ t))
+other_item : (t : List ℕ) → hold_item hold_kind hold_pattern (108 ∷ t) ≡ Err (record { fault = NotUnderstood; left = length (108 ∷ t) })
 unfolding hold_item scan_from element literal
 other_item t = refl
 
-hold_entry : (pins : ℕ) (rxd : Bool) (clocks : ℕ) → pins < 256 → clocks < 65536 → entries (hold pins rxd clocks) ≡ Record hold_kind (Hold pins rxd clocks)
+hold_entry : (pins : ℕ) (rxd : Bool) (clocks : ℕ) → pins < 256 → clocks < 65536 → entries (hold pins rxd clocks) ≡ Ok (Record hold_kind (Hold pins rxd clocks))
 unfolding entries holds
 hold_entry pins rxd clocks byte small =
     rw (
@@ -151,7 +153,7 @@ hold_entry pins rxd clocks byte small =
     )
 
 long_entry : (pins : ℕ) (rxd : Bool) (clocks : ℕ) → pins < 256 → clocks < 4294967296 →
-    entries (ascii "long " ++ hold pins rxd clocks) ≡ Record long_hold_kind (Hold pins rxd clocks)
+    entries (ascii "long " ++ hold pins rxd clocks) ≡ Ok (Record long_hold_kind (Hold pins rxd clocks))
 unfolding entries holds
 long_entry pins rxd clocks byte small =
     rw (
@@ -170,17 +172,17 @@ holds_give_back n kind pins rxd clocks (byte, inl (is, small)) =
     rw is
     (ap item (printed_is n hold_kind (Hold pins rxd clocks))
     ∙ numbered n (hold pins rxd clocks) (hold_first pins rxd clocks)
-    ∙ hold_entry pins rxd clocks byte small)
+    ∙ ap said (hold_entry pins rxd clocks byte small))
 holds_give_back n kind pins rxd clocks (byte, inr (is, small)) =
     rw is
     (ap item (printed_is n long_hold_kind (Hold pins rxd clocks))
     ∙ numbered n (ascii "long " ++ hold pins rxd clocks) (omega arith)
-    ∙ long_entry pins rxd clocks byte small)
+    ∙ ap said (long_entry pins rxd clocks byte small))
 
-reset_entry : entries (ascii "reset") ≡ Record reset_kind Reset
+reset_entry : entries (ascii "reset") ≡ Ok (Record reset_kind Reset)
 unfolding entries holds reads writes reset_item line_item hold_item access_item scan_from element literal numeral blanks_from closed
 reset_entry = refl
 
 pub resets_give_back : ResetsGiveBack
 unfolding event
-resets_give_back n = ap item (printed_is n reset_kind Reset) ∙ numbered n (ascii "reset") (omega arith) ∙ reset_entry
+resets_give_back n = ap item (printed_is n reset_kind Reset) ∙ numbered n (ascii "reset") (omega arith) ∙ ap said reset_entry

@@ -1,6 +1,6 @@
 -- The number in front of a record is passed over. Assumes nothing.
-use mathlib.Core.Path.{◌≡◌, refl, ◌∙◌}
-use mathlib.Core.Bool.{Bool, true, false}
+use mathlib.Core.Path.{◌≡◌, refl, ap, ◌∙◌}
+use mathlib.Core.Bool.{true}
 use mathlib.Core.List.{List, [], ◌∷◌, ◌++◌, append_assoc}
 use Prim.Native.Nat.{ℕ, suc, ◌+◌, ◌<◌, ◌≤◌}
 use native.Mathlib.Omega.{arith}
@@ -11,12 +11,14 @@ use Rattle.text.specs.Record.{long, event}
 use Rattle.claims_assembling.specs.Laws.{printed}
 use lib.Seq.{drop-append-add}
 use borrow.Author.Tests.{lt-ltb}
+use Rattle.std.specs.Prelude.{Result, Ok, Err, is_err}
 use Rattle.text.specs.Digits.{decimal, number}
 use Rattle.qsm.specs.declared.event.Event.{Event}
 use Rattle.tool_assemble.specs.Scan.{blanks_from}
-use Rattle.tool_assemble.specs.Item.{better, fronted_from, entries, body_item, unblanked, item}
+use Rattle.tool_assemble.specs.Item.{better, fronted_from, entries, body_item, said, unblanked, item}
 use Rattle.tool_assemble.specs.declared.item.Item.{Item}
-use Rattle.tool_assemble.specs.declared.item.Item.TheVariants.{Nothing, Record, Text, Bad}
+use Rattle.tool_assemble.specs.declared.item.Item.TheVariants.{Record}
+use Rattle.tool_assemble.specs.declared.item.Wrong.{Wrong}
 use Rattle.claims_assembling.proofs.Digits.{decimal_first, decimal_some, front_read}
 use Rattle.claims_assembling.proofs.Steps.{solid, not_closed}
 
@@ -41,7 +43,7 @@ module _ (n : ℕ) (body : List ℕ) (begun : 33 ≤ get_or body 0 0) where
   unfolding item
   whole = let some : 33 ≤ get_or text 0 0 = omega (arith, first) in rw (solid 0 text some)
 
-  passed : unblanked text ≡ body_item (32 ∷ body)
+  passed : unblanked text ≡ said (body_item (32 ∷ body))
   unfolding unblanked
   passed = let some : 33 ≤ get_or text 0 0 = omega (arith, first) in rw (solid 0 text some, not_closed 0 text first, front, behind)
 
@@ -49,22 +51,14 @@ module _ (n : ℕ) (body : List ℕ) (begun : 33 ≤ get_or body 0 0) where
   unfolding body_item blanks_from
   entered = rw (solid 1 body begun)
 
-  pub numbered : item (number n ++ body) ≡ entries body
-  numbered = rw (append_assoc (decimal 20 n) (58 ∷ 32 ∷ []) body) (whole ∙ passed ∙ entered)
+  pub numbered : item (number n ++ body) ≡ said (entries body)
+  numbered = rw (append_assoc (decimal 20 n) (58 ∷ 32 ∷ []) body) (whole ∙ passed ∙ ap said entered)
 
 pub printed_is : (n kind : ℕ) (e : Event) → printed n kind e ≡ number n ++ (long (eqb kind long_hold_kind) ++ event e)
 printed_is n kind e = append_assoc (number n) (long (eqb kind long_hold_kind)) (event e)
 
 -- ---- the first that is not wrong
 
-abbrev pub wrong : Item → Bool
-wrong Nothing = false
-wrong (Record k e) = false
-wrong (Text s) = false
-wrong (Bad f left) = true
-
-pub past : (x : Item) (k : ℕ) (e : Event) → wrong x ≡ true → better x (Record k e) ≡ Record k e
-past Nothing k e h = let z : ◌≡◌ {A = ℕ} 0 1 = cc in absurd (omega arith)
-past (Record j d) k e h = let z : ◌≡◌ {A = ℕ} 0 1 = cc in absurd (omega arith)
-past (Text s) k e h = let z : ◌≡◌ {A = ℕ} 0 1 = cc in absurd (omega arith)
-past (Bad f left) k e h = refl
+pub past : (x : Result Item Wrong) (k : ℕ) (e : Event) → is_err x ≡ true → better x (Ok (Record k e)) ≡ Ok (Record k e)
+past (Ok y) k e h = let z : ◌≡◌ {A = ℕ} 0 1 = cc in absurd (omega arith)
+past (Err w) k e h = refl

@@ -8,8 +8,9 @@ use lib.Dec.{ltb}
 use lib.ListN.{length, drop, get_or, length-append}
 use lib.Seq.{drop-append_seam}
 use borrow.Author.Tests.{lt-ltb, le-ltb, eq-eqb, ne_eqb, ltb-true}
+use Rattle.std.specs.Prelude.{Option, Some, None}
 use Rattle.text.specs.Digits.{decimal, hex_byte, hex_word, hex_long}
-use Rattle.tool_assemble.specs.Scan.{is_blank, blanks_from, digit_of, digits, nothing, number, limit, numeral, literal, closed, element, scan_from}
+use Rattle.tool_assemble.specs.Scan.{is_blank, blanks_from, digit_of, digits, number, limit, numeral, literal, closed, element, scan_from}
 use Rattle.tool_assemble.specs.declared.scan.Taken.{Taken}
 use Rattle.tool_assemble.specs.declared.scan.Numbers.{Numbers}
 use Rattle.tool_assemble.proofs.Reading.{numeral_some}
@@ -24,7 +25,7 @@ unfolding blanks_from
 solid n [] h = refl
 solid n (b ∷ t) h = rw (not_blank b h)
 
-pub not_closed : (n : ℕ) (t : List ℕ) → 48 ≤ get_or t 0 0 → closed n t ≡ nothing
+pub not_closed : (n : ℕ) (t : List ℕ) → 48 ≤ get_or t 0 0 → closed n t ≡ None
 unfolding closed
 not_closed n [] h = absurd (omega arith)
 not_closed n (b ∷ t) h = rw (ne_eqb b 35 (λ e. omega arith))
@@ -55,8 +56,8 @@ gap_step cs t n h = rw (solid 1 t h)
 
 -- ---- numbers
 
-abbrev pub found : ℕ → ℕ → Taken
-found length value = record { ok = true; length = length; pushes = true; value = value }
+abbrev pub found : ℕ → ℕ → Option Taken
+found length value = Some (record { length = length; value = Some value })
 
 abbrev pub push : Numbers → ℕ → Numbers
 push n v = record { first = n.second; second = n.third; third = v }

@@ -1,5 +1,5 @@
 -- What is shown of assembling: the line that `text` prints of a record gives the record back.
-use Rattle.std.specs.Prelude.{◌≡◌, Bool, ◌⊎◌, List, ◌++◌, ℕ, ◌<◌, ◌^◌, eqb, length}
+use Rattle.std.specs.Prelude.{◌≡◌, Bool, ◌⊎◌, Some, Ok, List, ◌++◌, ℕ, ◌<◌, ◌^◌, eqb, length}
 use Rattle.qsm.specs.declared.event.Access.TheVariants.{Read, Write}
 use Rattle.qsm.specs.declared.event.Event.{Event}
 use Rattle.qsm.specs.declared.event.Event.TheVariants.{Reset, Hold}
@@ -30,27 +30,28 @@ printed n kind e = number n ++ long (eqb kind long_hold_kind) ++ event e
 
 -- The line of a record gives it back: a reset, a hold of either kind, a read, a write.
 abbrev pub ResetsGiveBack : Type 0
-ResetsGiveBack = (n : ℕ) → item (printed n reset_kind Reset) ≡ Record reset_kind Reset
+ResetsGiveBack = (n : ℕ) → item (printed n reset_kind Reset) ≡ Ok (Some (Record reset_kind Reset))
 
 abbrev pub HoldsGiveBack : Type 0
 HoldsGiveBack =
     (n kind pins : ℕ) (rxd : Bool) (clocks : ℕ) → Fits kind (Hold pins rxd clocks) →
-    item (printed n kind (Hold pins rxd clocks)) ≡ Record kind (Hold pins rxd clocks)
+    item (printed n kind (Hold pins rxd clocks)) ≡ Ok (Some (Record kind (Hold pins rxd clocks)))
 
 abbrev pub ReadsGiveBack : Type 0
 ReadsGiveBack =
     (n : ℕ) (supervisor : Bool) (width offset : ℕ) → width < 128 → offset < 65536 →
-    item (printed n read_kind (events.Access (Read supervisor width offset))) ≡ Record read_kind (events.Access (Read supervisor width offset))
+    item (printed n read_kind (events.Access (Read supervisor width offset)))
+    ≡ Ok (Some (Record read_kind (events.Access (Read supervisor width offset))))
 
 abbrev pub WritesGiveBack : Type 0
 WritesGiveBack =
     (n : ℕ) (supervisor : Bool) (width offset value : ℕ) → width < 128 → offset < 65536 → value < 2 ^ 32 →
     item (printed n write_kind (events.Access (Write supervisor width offset value)))
-    ≡ Record write_kind (events.Access (Write supervisor width offset value))
+    ≡ Ok (Some (Record write_kind (events.Access (Write supervisor width offset value))))
 
 -- Whichever it is.
 abbrev pub LinesGiveBack : Type 0
-LinesGiveBack = (n kind : ℕ) (e : Event) → Fits kind e → item (printed n kind e) ≡ Record kind e
+LinesGiveBack = (n kind : ℕ) (e : Event) → Fits kind e → item (printed n kind e) ≡ Ok (Some (Record kind e))
 
 -- The bytes of a record are the record, to a reader of traces.
 abbrev pub BytesGiveBack : Type 0

@@ -1,5 +1,5 @@
 -- A text as `show --trace` prints it of a trace, and the trace that is assembled from a text.
-use Rattle.std.specs.Prelude.{◌≡◌, Bool, true, false, cond, List, [], ◌∷◌, ◌++◌, ℕ, zero, suc, ◌+◌, ◌-◌, ◌<◌, eqb, length, drop}
+use Rattle.std.specs.Prelude.{◌≡◌, Bool, true, false, cond, Option, Some, None, Result, Ok, Err, List, [], ◌∷◌, ◌++◌, ℕ, zero, suc, ◌+◌, ◌-◌, ◌<◌, eqb, length, drop}
 use Rattle.qsm.specs.declared.event.Event.{Event}
 use Rattle.trace.specs.Trace.{byte_at, parsed}
 use Rattle.trace.specs.declared.Parsed.{Parsed}
@@ -10,7 +10,8 @@ use Rattle.tool_assemble.specs.Item.{item}
 use Rattle.tool_assemble.specs.Sent.{sent_bytes, edge, bit_clocks, bit_hold}
 use Rattle.tool_assemble.specs.declared.sent.Sent.{Sent}
 use Rattle.tool_assemble.specs.declared.item.Item.{Item}
-use Rattle.tool_assemble.specs.declared.item.Item.TheVariants.{Nothing, Record, Text, Bad}
+use Rattle.tool_assemble.specs.declared.item.Item.TheVariants.{Record, Text}
+use Rattle.tool_assemble.specs.declared.item.Wrong.{Wrong}
 use Rattle.claims_assembling.specs.Laws.{Fits, LinesGiveBack, BytesGiveBack}
 
 -- A whole trace whose RXD bytes are 00 or 01: record after record, each with fields that fit its bytes.
@@ -63,11 +64,11 @@ abbrev pub behind : List ℕ → Assembled → Assembled
 behind x a = cond a.good (made (x ++ a.bytes)) refused
 
 -- A line, and then what the lines behind it make.
-abbrev pub after : List ℕ → Item → Assembled → Assembled
-after line Nothing a = a
-after line (Record kind e) a = behind (record_bytes kind e) a
-after line (Text s) a = behind (held s 0 (sent_bytes (length line) (drop (length line - s.start) line))) a
-after line (Bad f left) a = refused
+abbrev pub after : List ℕ → Result (Option Item) Wrong → Assembled → Assembled
+after line (Ok None) a = a
+after line (Ok (Some (Record kind e))) a = behind (record_bytes kind e) a
+after line (Ok (Some (Text s))) a = behind (held s 0 (sent_bytes (length line) (drop (length line - s.start) line))) a
+after line (Err w) a = refused
 
 -- A text behind the bytes of a line that has not ended. Each line ends with byte 10, and the last with the text.
 unfoldable pub assembled_from : List ℕ → List ℕ → Assembled

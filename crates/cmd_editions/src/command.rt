@@ -6,7 +6,7 @@ use files::command::argument;
 use files::system::System;
 use files::words::same;
 use shell::arguments::Seen;
-use text::number::{Number, parse_number};
+use text::number::parse_number;
 use tool_editions::records::Edition;
 
 #[derive(Clone, Copy)]
@@ -87,13 +87,13 @@ fn register_of(word: &[u8]) -> Word
 // An edition's number, in decimal.
 fn number_of(word: &[u8]) -> Word {
     match parse_number(word) {
-        Number::Is(n) => {
+        Some(n) => {
             if n < 65536 {
                 return Word::Is((n % 65536) as u16);
             }
             Word::NoWord
         }
-        Number::NoNumber => Word::NoWord,
+        None => Word::NoWord,
     }
 }
 

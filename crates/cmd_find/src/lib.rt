@@ -12,7 +12,7 @@ use files::system::{Sink, System};
 use marks::read_marks;
 use piece::{Looked, What};
 use qsm::event::Event;
-use text::number::{Number, parse_number};
+use text::number::parse_number;
 use tool_index::stored::numbers;
 use tool_index::walk::Position;
 
@@ -99,7 +99,7 @@ fn by_marks<R: System>(rt: &R, from: usize, number: u64) -> Status {
     Status::Failed
 }
 
-fn wanted<R: System>(rt: &R, from: usize) -> Number {
+fn wanted<R: System>(rt: &R, from: usize) -> Option<u64> {
     let mut word = io::buffer();
     let n = named_word(rt, from, 2, &mut word);
     parse_number(&word[..n])
@@ -132,7 +132,7 @@ Exit status: 0 the record is printed, 1 there is no such record, 2 could not be 
     if !c.go {
         return worse(c.wrong, Status::Done);
     }
-    let Number::Is(number) = wanted(rt, from) else {
+    let Some(number) = wanted(rt, from) else {
         say(b"find", b"NUMBER is no decimal number\n");
         return Status::Failed;
     };

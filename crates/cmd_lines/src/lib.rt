@@ -12,7 +12,6 @@ use files::origin::Origin;
 use files::system::{Sink, System};
 use piece::Wanted;
 use std::io::Error;
-use text::number::Number;
 use tool_lines::line::Outcome;
 
 mod calls;
@@ -88,8 +87,7 @@ fn open<R: System>(rt: &R, from: usize, wanted: Wanted) -> Status {
 fn by_period<R: System>(rt: &R, from: usize, noise: bool) -> Status {
     let mut word = io::buffer();
     let n = files::command::named_word(rt, from, 0, &mut word);
-    let p = text::number::parse_number(&word[..n]);
-    let Number::Is(k) = p else {
+    let Some(k) = text::number::parse_number(&word[..n]) else {
         say_of(b"lines", b"no number: ", &word[..n]);
         return Status::Failed;
     };

@@ -3,7 +3,7 @@ use files::command::argument;
 use files::system::System;
 use shell::arguments::Seen;
 use shell::message::say_of;
-use text::number::{Number, parse_number};
+use text::number::parse_number;
 
 // CPOL, CPHA, the least SPBR and DSCKL, a trace; the window. Where a number is not understood, which is said, it is not good.
 #[derive(Clone, Copy)]
@@ -18,31 +18,20 @@ pub struct Wanted {
 }
 
 // A number from the least to the most, or one that is none.
-fn within(word: &[u8], low: u64, high: u64) -> Number {
-    let number = parse_number(word);
-    match number {
-        Number::Is(n) => {
-            if n < low {
-                return Number::NoNumber;
-            }
-            if n > high {
-                return Number::NoNumber;
-            }
-            Number::Is(n)
-        }
-        Number::NoNumber => Number::NoNumber,
-    }
+fn within(word: &[u8], low: u64, high: u64) -> Option<u64> {
+    let n = parse_number(word)?;
+    if low <= n && n <= high { Some(n) } else { None }
 }
 
 // The number that the argument at a place is; `other` where there is no such argument. What is no such number is said.
-fn number<R: System>(rt: &R, place: usize, low: u64, high: u64, other: u64) -> Number {
+fn number<R: System>(rt: &R, place: usize, low: u64, high: u64, other: u64) -> Option<u64> {
     if place == 0 {
-        return Number::Is(other);
+        return Some(other);
     }
     let mut word = io::buffer();
     let n = argument(rt, place, &mut word);
     let found = within(&word[..n], low, high);
-    if let Number::NoNumber = found {
+    if found.is_none() {
         say_of(b"plan", b"not understood: ", &word[..n]);
     }
     found
@@ -64,13 +53,13 @@ pub fn asked_of<R: System>(rt: &R, seen: Seen) -> Wanted {
     let flags = seen.flags;
     let values = seen.values;
     let places = seen.places;
-    let Number::Is(window) = number(rt, places[0], 0, u64::MAX, 0) else {
+    let Some(window) = number(rt, places[0], 0, u64::MAX, 0) else {
         return not_good();
     };
-    let Number::Is(spbr) = number(rt, values[0], 2, 255, 2) else {
+    let Some(spbr) = number(rt, values[0], 2, 255, 2) else {
         return not_good();
     };
-    let Number::Is(dsckl) = number(rt, values[1], 1, 127, 1) else {
+    let Some(dsckl) = number(rt, values[1], 1, 127, 1) else {
         return not_good();
     };
     Wanted {

@@ -1,8 +1,6 @@
 -- The clock that a word names, in Hz; 0 where it is none.
-use Rattle.std.specs.Prelude.{cond, ℕ, ◌^◌, ltb}
-use Rattle.text.specs.declared.number.Number.{Number}
-use Rattle.text.specs.declared.number.Number.TheVariants.{Is, NoNumber}
+use Rattle.std.specs.Prelude.{cond, Option, Some, None, ℕ, ◌^◌, ltb}
 
-abbrev pub rate : Number → ℕ
-rate (Is k) = cond (ltb k (2 ^ 32)) k 0
-rate NoNumber = 0
+abbrev pub rate : Option ℕ → ℕ
+rate (Some k) = cond (ltb k (2 ^ 32)) k 0
+rate None = 0

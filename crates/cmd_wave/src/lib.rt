@@ -13,7 +13,6 @@ use files::message::{fail, say};
 use files::origin::Origin;
 use files::system::{Sink, System};
 use std::io::Error;
-use text::number::Number;
 use tool_wave::Outcome;
 
 mod ending;
@@ -130,17 +129,17 @@ fn open<R: System>(rt: &R, from: usize, hz: u32, word: usize) -> Status {
 }
 
 // A clock in Hz, or 0 where a number is none.
-fn rate(n: Number) -> u32
+fn rate(n: Option<u64>) -> u32
     ensures { result ≡ rate n }
 {
     match n {
-        Number::Is(k) => {
+        Some(k) => {
             if k < 4294967296 {
                 return k as u32;
             }
             0
         }
-        Number::NoNumber => 0,
+        None => 0,
     }
 }
 

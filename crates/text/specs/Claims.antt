@@ -1,5 +1,5 @@
 -- What is shown of the texts: decimal digits give the number back, to a reader and to the code, and an answer's bytes in a log give the answer back.
-use Rattle.std.specs.Prelude.{◌≡◌, ◌⊎◌, false, List, [], ◌∷◌, ◌++◌, ℕ, ◌+◌, ◌-◌, ◌*◌, ◌<◌, ◌^◌}
+use Rattle.std.specs.Prelude.{◌≡◌, ◌⊎◌, false, Some, List, [], ◌∷◌, ◌++◌, ℕ, ◌+◌, ◌-◌, ◌*◌, ◌<◌, ◌^◌}
 use Rattle.std.specs.Int.Bits.{bit_and}
 use Rattle.qsm.specs.declared.event.Answer.{Answer}
 use Rattle.answers.specs.Answer.{plain, clocked}
@@ -8,7 +8,6 @@ use Rattle.text.specs.Digits.{decimal}
 use Rattle.text.specs.Number.{number_of}
 use Rattle.text.specs.Answer.{unnamed}
 use Rattle.text.specs.Log.{entry}
-use Rattle.text.specs.declared.number.Number.TheVariants.{Is}
 use Rattle.text.specs.declared.log.Entry.TheVariants.{Whole, OtherKind}
 
 -- The number of decimal digits behind those of n.
@@ -22,7 +21,7 @@ DigitsGiveBack = (digits n : ℕ) → n < 10 ^ digits → valued 0 (decimal digi
 
 -- A number in decimal is read back.
 abbrev pub NumbersGiveBack : Type 0
-NumbersGiveBack = (n : ℕ) → n < 2 ^ 64 → number_of (decimal 20 n) ≡ Is n
+NumbersGiveBack = (n : ℕ) → n < 2 ^ 64 → number_of (decimal 20 n) ≡ Some n
 
 -- An answer that a log can have.
 pub record Given (a : Answer) : Type 0 where

@@ -1,6 +1,6 @@
 -- The definitions of reading, one byte further on. Assumes nothing.
 use mathlib.Core.Path.{◌≡◌, refl, sym, ap, ◌∙◌}
-use mathlib.Core.Bool.{Bool, true, false, cond}
+use mathlib.Core.Bool.{Bool, true, false, cond, ◌&&◌}
 use mathlib.Core.List.{List, [], ◌∷◌}
 use Prim.Native.Nat.{ℕ, zero, suc, ◌+◌, ◌-◌, ◌*◌, ◌≤◌, ◌<◌}
 use native.Mathlib.Nat.{mul-le-mul}
@@ -10,7 +10,9 @@ use lib.Dec.{eqb, ltb}
 use lib.ListN.{length, take, drop, get_or, length-append, length-drop, get_or-eq_default}
 use lib.Seq.{drop-cons, drop-length, take_all, take-append_seam, get_or-drop}
 use borrow.Author.Tests.{ltb-true}
-use Rattle.tool_assemble.specs.Scan.{is_blank, blanks_from, digit_of, takes, digits, nothing, some, number, limit, numeral, literal, commented, closed, element, onward, scan_from}
+use Rattle.std.specs.Prelude.{None, Ok}
+use Rattle.std.specs.List.{starts_with}
+use Rattle.tool_assemble.specs.Scan.{is_blank, blanks_from, digit_of, takes, digits, bytes, number, limit, numeral, literal, commented, closed, element, onward, scan_from}
 use Rattle.text.specs.Line.{room, Shows}
 use Rattle.text.specs.declared.line.Line.{Line}
 use Rattle.text.specs.Register.{registers}
@@ -70,7 +72,12 @@ pub digits_end : (base most n i : ℕ) → digits base most n i [] ≡ record { 
 unfolding digits
 digits_end base most n i = refl
 
-pub numeral_none : (c : ℕ) (t : List ℕ) → length t ≡ 0 → numeral c t ≡ nothing
+-- A text that the test of emptiness refuses.
+pub some_left : (t : List ℕ) (empty : Bool) → empty ≡ eqb (length t) 0 → empty ≡ false → 0 < length t
+some_left [] empty is not_empty = let z : ◌≡◌ {A = ℕ} 0 1 = cc in absurd (omega arith)
+some_left (b ∷ t) empty is not_empty = omega arith
+
+pub numeral_none : (c : ℕ) (t : List ℕ) → length t ≡ 0 → numeral c t ≡ None
 unfolding numeral
 numeral_none c [] h = refl
 numeral_none c (b ∷ t) h = absurd (omega arith)
@@ -84,17 +91,17 @@ unfolding numeral
 numeral_some c [] h = absurd (omega arith)
 numeral_some c (b ∷ t) h = refl
 
-pub literal_none : (c : ℕ) (t : List ℕ) → length t ≡ 0 → literal c t ≡ nothing
+pub literal_none : (c : ℕ) (t : List ℕ) → length t ≡ 0 → literal c t ≡ None
 unfolding literal
 literal_none c [] h = refl
 literal_none c (b ∷ t) h = absurd (omega arith)
 
-pub literal_some : (c : ℕ) (t : List ℕ) → 0 < length t → literal c t ≡ cond (eqb (get_or t 0 0) c) (some 1) nothing
+pub literal_some : (c : ℕ) (t : List ℕ) → 0 < length t → literal c t ≡ cond (eqb (get_or t 0 0) c) (bytes 1) None
 unfolding literal
 literal_some c [] h = absurd (omega arith)
 literal_some c (b ∷ t) h = refl
 
-pub closed_none : (n : ℕ) (t : List ℕ) (i : ℕ) → length t ≤ i → i ≤ length t → closed n (drop i t) ≡ some n
+pub closed_none : (n : ℕ) (t : List ℕ) (i : ℕ) → length t ≤ i → i ≤ length t → closed n (drop i t) ≡ bytes n
 unfolding closed
 closed_none n t i least most = rw (end t i least most)
 
@@ -107,7 +114,7 @@ pub scan_at : (cs : List ℕ) (i : ℕ) (t : List ℕ) (n : Numbers) → i < len
 unfolding scan_from
 scan_at cs i t n h = rw (add-one, drop-cons cs i 0 h)
 
-pub scan_end : (t : List ℕ) (n : Numbers) → scan_from [] t n ≡ record { ok = true; left = length t; numbers = n }
+pub scan_end : (t : List ℕ) (n : Numbers) → scan_from [] t n ≡ Ok (record { left = length t; numbers = n })
 unfolding scan_from
 scan_end t n = refl
 
@@ -119,18 +126,16 @@ pub name_end : (i : ℕ) → name_from i [] ≡ i
 unfolding name_from
 name_end i = refl
 
-pub begins_none : (t : List ℕ) → begins [] t ≡ true
-unfolding begins
-begins_none t = refl
+and_is : (p q : Bool) → cond p q false ≡ p && q
+and_is true q = refl
+and_is false q = refl
 
-pub begins_short : (ws : List ℕ) (i : ℕ) → i < length ws → begins (drop i ws) [] ≡ false
+-- A text begins with a word, by the library's word for it.
+pub begins_is : (ws t : List ℕ) → begins ws t ≡ starts_with eqb t ws
 unfolding begins
-begins_short ws i h = rw (drop-cons ws i 0 h)
-
-pub begins_at_holds : (ws t : List ℕ) (i : ℕ) → i < length ws → i < length t →
-    begins (drop i ws) (drop i t) ≡ cond (eqb (get_or ws i 0) (get_or t i 0)) (begins (drop (i + 1) ws) (drop (i + 1) t)) false
-unfolding begins
-begins_at_holds ws t i h k = rw (add-one, drop-cons ws i 0 h, drop-cons t i 0 k)
+begins_is [] t = refl
+begins_is (w ∷ ws) [] = refl
+begins_is (w ∷ ws) (b ∷ t) = rw (begins_is ws t) (and_is (eqb w b) (starts_with eqb t ws))
 
 pub fronted_at : (t : List ℕ) (i : ℕ) → i < length t →
     fronted_from i (drop i t)

@@ -1,5 +1,5 @@
 -- What a line of text says: a record, in the form that `text` prints, with its number in front or without; a text sent on RXD; nothing.
-use Rattle.std.specs.Prelude.{Bool, true, false, cond, List, [], ◌∷◌, ◌++◌, ℕ, suc, ◌-◌, ◌%◌, eqb, ltb, length, drop}
+use Rattle.std.specs.Prelude.{Bool, true, false, cond, Option, Some, None, is_some, Result, Ok, Err, List, [], ◌∷◌, ◌++◌, ℕ, suc, ◌-◌, ◌%◌, eqb, ltb, length, drop}
 use Rattle.qsm.specs.declared.event.Access.TheVariants.{Read, Write}
 use Rattle.qsm.specs.declared.event.Event.{Event}
 use Rattle.qsm.specs.declared.event.Event.TheVariants.{Reset, Hold}
@@ -14,35 +14,38 @@ use Rattle.tool_assemble.specs.declared.names.Offset.TheVariants.{Nowhere, At, S
 use Rattle.tool_assemble.specs.declared.scan.Numbers.{Numbers}
 use Rattle.tool_assemble.specs.declared.scan.Found.{Found}
 use Rattle.tool_assemble.specs.declared.item.Fault.{Fault}
-use Rattle.tool_assemble.specs.declared.item.Fault.TheVariants.{NotUnderstood, OtherName, NoName, ManyNames, NoRate}
+use Rattle.tool_assemble.specs.declared.item.Wrong.{Wrong}
+use Rattle.tool_assemble.specs.declared.item.Fault.TheVariants.{OtherName, NoName, ManyNames, NoRate}
 use Rattle.tool_assemble.specs.declared.item.Item.{Item}
-use Rattle.tool_assemble.specs.declared.item.Item.TheVariants.{Nothing, Record, Text, Bad}
+use Rattle.tool_assemble.specs.declared.item.Item.TheVariants.{Record, Text}
 
--- The fault that was found further on, or what is no fault.
-abbrev pub further : Fault → ℕ → Item → Item
-further f left Nothing = Nothing
-further f left (Record k e) = Record k e
-further f left (Text s) = Text s
-further f left (Bad g rest) = cond (ltb rest left) (Bad g rest) (Bad f left)
+-- What is wrong, with the bytes left from there on.
+abbrev pub bad : Fault → ℕ → Result Item Wrong
+bad f left = Err (record { fault = f; left = left })
+
+-- What was understood further, or what is not wrong.
+abbrev pub further : Wrong → Result Item Wrong → Result Item Wrong
+further w (Ok y) = Ok y
+further w (Err v) = cond (ltb v.left w.left) (Err v) (Err w)
 
 -- The first of two that is not wrong; else what was understood further.
-abbrev pub better : Item → Item → Item
-better Nothing y = Nothing
-better (Record k e) y = Record k e
-better (Text s) y = Text s
-better (Bad f left) y = further f left y
+abbrev pub better : Result Item Wrong → Result Item Wrong → Result Item Wrong
+better (Ok x) y = Ok x
+better (Err w) y = further w y
 
-abbrev pub stuck : Found → Item
-stuck f = Bad NotUnderstood f.left
+-- What a text says that a pattern was held against, by what was found.
+abbrev pub on_found : Result Found Wrong → (Found → Result Item Wrong) → Result Item Wrong
+on_found (Ok f) says = says f
+on_found (Err w) says = Err w
 
-unfoldable pub reset_item : List ℕ → Item
-reset_item t = cond (scan (ascii "reset" ++ (31 ∷ [])) t).ok (Record reset_kind Reset) (stuck (scan (ascii "reset" ++ (31 ∷ [])) t))
+unfoldable pub reset_item : List ℕ → Result Item Wrong
+reset_item t = on_found (scan (ascii "reset" ++ (31 ∷ [])) t) (λ _. Ok (Record reset_kind Reset))
 
 abbrev pub hold_of : Numbers → Event
 hold_of n = Hold (n.first % 256) (eqb n.second 1) (n.third % 4294967296)
 
-unfoldable pub hold_item : ℕ → List ℕ → List ℕ → Item
-hold_item kind pattern t = cond (scan pattern t).ok (Record kind (hold_of (scan pattern t).numbers)) (stuck (scan pattern t))
+unfoldable pub hold_item : ℕ → List ℕ → List ℕ → Result Item Wrong
+hold_item kind pattern t = on_found (scan pattern t) (λ f. Ok (Record kind (hold_of f.numbers)))
 
 abbrev pub access_of : Bool → Bool → ℕ → ℕ → ℕ → Item
 access_of true supervisor width offset value = Record write_kind (events.Access (Write supervisor width offset (value % 4294967296)))
@@ -53,20 +56,20 @@ abbrev pub offset_of : Bool → Numbers → ℕ
 offset_of writes n = cond writes n.second n.third % 65536
 
 -- With an offset: the names are those of its registers.
-unfoldable pub access_at : Bool → Bool → ℕ → List ℕ → ℕ → Numbers → Item
+unfoldable pub access_at : Bool → Bool → ℕ → List ℕ → ℕ → Numbers → Result Item Wrong
 access_at writes supervisor width t k n =
-    cond (is_name width (offset_of writes n) t k) (access_of writes supervisor width (offset_of writes n) n.third) (Bad OtherName (length t))
+    cond (is_name width (offset_of writes n) t k) (Ok (access_of writes supervisor width (offset_of writes n) n.third)) (bad OtherName (length t))
 
 -- Without one: the offset is the only one of the map with these names.
 abbrev pub map_end : ℕ
 map_end = 336
 
-abbrev pub at : Bool → Bool → ℕ → ℕ → ℕ → Offset → Item
-at writes supervisor width value left Nowhere = Bad NoName left
-at writes supervisor width value left (At offset) = access_of writes supervisor width offset value
-at writes supervisor width value left Several = Bad ManyNames left
+abbrev pub at : Bool → Bool → ℕ → ℕ → ℕ → Offset → Result Item Wrong
+at writes supervisor width value left Nowhere = bad NoName left
+at writes supervisor width value left (At offset) = Ok (access_of writes supervisor width offset value)
+at writes supervisor width value left Several = bad ManyNames left
 
-unfoldable pub access_named : Bool → Bool → ℕ → List ℕ → ℕ → Numbers → Item
+unfoldable pub access_named : Bool → Bool → ℕ → List ℕ → ℕ → Numbers → Result Item Wrong
 access_named writes supervisor width t k n = at writes supervisor width n.third (length t) (sought width t k map_end)
 
 -- What stands behind the names.
@@ -79,12 +82,12 @@ behind_name true = ascii ", value " ++ 3 ∷ 31 ∷ []
 behind_name false = 31 ∷ []
 
 -- From the names on, k bytes of them, by what stands behind: an offset, or none.
-abbrev pub by_what_follows : Bool → Bool → ℕ → List ℕ → ℕ → Found → Found → Item
-by_what_follows writes supervisor width t k f g =
-    cond f.ok (access_at writes supervisor width t k f.numbers)
-    (cond g.ok (access_named writes supervisor width t k g.numbers) (better (stuck f) (stuck g)))
+abbrev pub by_what_follows : Bool → Bool → ℕ → List ℕ → ℕ → Result Found Wrong → Result Found Wrong → Result Item Wrong
+by_what_follows writes supervisor width t k (Ok f) y = access_at writes supervisor width t k f.numbers
+by_what_follows writes supervisor width t k (Err w) (Ok g) = access_named writes supervisor width t k g.numbers
+by_what_follows writes supervisor width t k (Err w) (Err v) = better (Err w) (Err v)
 
-unfoldable pub named : Bool → Bool → ℕ → List ℕ → Item
+unfoldable pub named : Bool → Bool → ℕ → List ℕ → Result Item Wrong
 named writes supervisor width t =
     by_what_follows writes supervisor width t (name_length t)
     (scan (behind_at writes) (drop (name_length t) t))
@@ -94,18 +97,16 @@ named writes supervisor width t =
 abbrev pub behind : List ℕ → Found → List ℕ
 behind t f = drop (length t - f.left) t
 
-unfoldable pub access_item : Bool → Bool → List ℕ → List ℕ → Item
+unfoldable pub access_item : Bool → Bool → List ℕ → List ℕ → Result Item Wrong
 access_item writes supervisor pattern t =
-    cond (scan pattern t).ok
-    (named writes supervisor ((scan pattern t).numbers.third % 128) (behind t (scan pattern t)))
-    (stuck (scan pattern t))
+    on_found (scan pattern t) (λ f. named writes supervisor (f.numbers.third % 128) (behind t f))
 
 -- A text sent on RXD, at a rate that is not above the clock.
-abbrev pub sent_of : ℕ → ℕ → ℕ → ℕ → Item
+abbrev pub sent_of : ℕ → ℕ → ℕ → ℕ → Result Item Wrong
 sent_of start baud clock pins =
-    cond (eqb baud 0) (Bad NoRate start)
-    (cond (ltb clock baud) (Bad NoRate start)
-    (Text (record { start = start; baud = baud % 4294967296; clock = clock % 4294967296; pins = pins % 256 })))
+    cond (eqb baud 0) (bad NoRate start)
+    (cond (ltb clock baud) (bad NoRate start)
+    (Ok (Text (record { start = start; baud = baud % 4294967296; clock = clock % 4294967296; pins = pins % 256 }))))
 
 -- Behind it: the rate, and the clock in hertz and the levels of the pins where they are said; 16,777,216 and 00 otherwise.
 abbrev pub rate_pattern : List ℕ
@@ -120,25 +121,28 @@ pins_pattern = ascii "\" at " ++ 7 ∷ ascii ", pins " ++ 1 ∷ 31 ∷ []
 abbrev pub full_pattern : List ℕ
 full_pattern = ascii "\" at " ++ 7 ∷ ascii ", clock " ++ 7 ∷ ascii ", pins " ++ 1 ∷ 31 ∷ []
 
-abbrev pub by_rate : ℕ → Found → Found → Found → Found → Item
-by_rate start f g h i =
-    cond f.ok (sent_of start f.numbers.third 16777216 0)
-    (cond g.ok (sent_of start g.numbers.second g.numbers.third 0)
-    (cond h.ok (sent_of start h.numbers.second 16777216 h.numbers.third)
-    (cond i.ok (sent_of start i.numbers.first i.numbers.second i.numbers.third) (better (stuck h) (stuck i)))))
+-- By what stands there: with the pins, and with the clock too; then the rate alone, the clock, or either of those.
+abbrev pub by_pins : ℕ → Result Found Wrong → Result Found Wrong → Result Item Wrong
+by_pins start (Ok h) i = sent_of start h.numbers.second 16777216 h.numbers.third
+by_pins start (Err w) (Ok i) = sent_of start i.numbers.first i.numbers.second i.numbers.third
+by_pins start (Err w) (Err v) = better (Err w) (Err v)
 
-unfoldable pub behind_text : ℕ → List ℕ → Item
+abbrev pub by_rate : ℕ → Result Found Wrong → Result Found Wrong → Result Found Wrong → Result Found Wrong → Result Item Wrong
+by_rate start (Ok f) g h i = sent_of start f.numbers.third 16777216 0
+by_rate start (Err w) (Ok g) h i = sent_of start g.numbers.second g.numbers.third 0
+by_rate start (Err w) (Err v) h i = by_pins start h i
+
+unfoldable pub behind_text : ℕ → List ℕ → Result Item Wrong
 behind_text start t = by_rate start (scan rate_pattern t) (scan clock_pattern t) (scan pins_pattern t) (scan full_pattern t)
 
-unfoldable pub inner : ℕ → List ℕ → Item
+unfoldable pub inner : ℕ → List ℕ → Result Item Wrong
 inner start t = behind_text start (drop (quoted (length t) 0 t) t)
 
 abbrev pub line_pattern : List ℕ
 line_pattern = ascii "line \""
 
-unfoldable pub line_item : List ℕ → Item
-line_item t =
-    cond (scan line_pattern t).ok (inner (scan line_pattern t).left (behind t (scan line_pattern t))) (stuck (scan line_pattern t))
+unfoldable pub line_item : List ℕ → Result Item Wrong
+line_item t = on_found (scan line_pattern t) (λ f. inner f.left (behind t f))
 
 -- The bytes of the number in front of a record and of the colon behind it, 0 if there are none; behind so many digits.
 abbrev pub colon : ℕ → ℕ → ℕ
@@ -164,25 +168,29 @@ access_pattern false false = ascii "read as user, width " ++ 5 ∷ ascii ", "
 access_pattern true true = ascii "write as supervisor, width " ++ 5 ∷ ascii ", "
 access_pattern true false = ascii "write as user, width " ++ 5 ∷ ascii ", "
 
-unfoldable pub holds : List ℕ → Item
+unfoldable pub holds : List ℕ → Result Item Wrong
 holds t = better (hold_item hold_kind hold_pattern t) (hold_item long_hold_kind long_hold_pattern t)
 
-unfoldable pub reads : List ℕ → Item
+unfoldable pub reads : List ℕ → Result Item Wrong
 reads t = better (access_item false true (access_pattern false true) t) (access_item false false (access_pattern false false) t)
 
-unfoldable pub writes : List ℕ → Item
+unfoldable pub writes : List ℕ → Result Item Wrong
 writes t = better (access_item true true (access_pattern true true) t) (access_item true false (access_pattern true false) t)
 
-unfoldable pub entries : List ℕ → Item
+unfoldable pub entries : List ℕ → Result Item Wrong
 entries t = better (better (holds t) (better (reads t) (writes t))) (better (reset_item t) (line_item t))
 
 -- Behind the number in front.
-unfoldable pub body_item : List ℕ → Item
+unfoldable pub body_item : List ℕ → Result Item Wrong
 body_item t = entries (drop (blanks t) t)
 
 -- What a line says, behind its blanks and without the byte that ends it.
-unfoldable pub unblanked : List ℕ → Item
-unblanked t = cond (ending t).ok Nothing (body_item (drop (fronted t) t))
+abbrev pub said : Result Item Wrong → Result (Option Item) Wrong
+said (Ok x) = Ok (Some x)
+said (Err w) = Err w
 
-unfoldable pub item : List ℕ → Item
+unfoldable pub unblanked : List ℕ → Result (Option Item) Wrong
+unblanked t = cond (is_some (ending t)) (Ok None) (said (body_item (drop (fronted t) t)))
+
+unfoldable pub item : List ℕ → Result (Option Item) Wrong
 item t = unblanked (drop (blanks t) t)

@@ -3,7 +3,7 @@ ghost use Rattle.std.specs.Prelude.{◌≡◌};
 ghost use Rattle.tool_assemble.specs.Scan.{scan};
 ghost use Rattle.tool_assemble.specs.Item.{access_of, offset_of, access_at, access_named, behind_at, behind_name, named, access_item};
 
-use crate::item::{Fault, Item, better};
+use crate::item::{Fault, Item, Wrong, better};
 use crate::names::{Offset, is_name, name_length, sought};
 use crate::scan::{Found, Numbers, scan};
 use qsm::event::{Access, Event};
@@ -34,14 +34,24 @@ fn offset_of(writes: bool, n: Numbers) -> u16
 
 // With an offset: the names are those of its registers.
 #[tactic(auto, unfolding(crate::specs::Item::access_at))]
-fn access_at(writes: bool, supervisor: bool, width: u8, text: &[u8], k: usize, n: Numbers) -> Item
+fn access_at(
+    writes: bool,
+    supervisor: bool,
+    width: u8,
+    text: &[u8],
+    k: usize,
+    n: Numbers,
+) -> Result<Item, Wrong>
     ensures { result ≡ access_at writes supervisor width text.now k n }
 {
     let offset = offset_of(writes, n);
     if is_name(width, offset, text, k) {
-        return access_of(writes, supervisor, width, offset, n.third);
+        return Ok(access_of(writes, supervisor, width, offset, n.third));
     }
-    Item::Bad(Fault::OtherName, text.len())
+    Err(Wrong {
+        fault: Fault::OtherName,
+        left: text.len(),
+    })
 }
 
 // Without one: the offset is the only one with these names.
@@ -53,19 +63,25 @@ fn access_named(
     text: &[u8],
     k: usize,
     n: Numbers,
-) -> Item
+) -> Result<Item, Wrong>
     ensures { result ≡ access_named writes supervisor width text.now k n }
 {
-    let found = sought(width, text, k, MAP_END);
-    match found {
-        Offset::Nowhere => Item::Bad(Fault::NoName, text.len()),
-        Offset::At(offset) => access_of(writes, supervisor, width, offset, n.third),
-        Offset::Several => Item::Bad(Fault::ManyNames, text.len()),
+    let left = text.len();
+    match sought(width, text, k, MAP_END) {
+        Offset::Nowhere => Err(Wrong {
+            fault: Fault::NoName,
+            left,
+        }),
+        Offset::At(offset) => Ok(access_of(writes, supervisor, width, offset, n.third)),
+        Offset::Several => Err(Wrong {
+            fault: Fault::ManyNames,
+            left,
+        }),
     }
 }
 
 // What stands behind the names: an offset, and a value of a write.
-fn behind_at(writes: bool, rest: &[u8]) -> Found
+fn behind_at(writes: bool, rest: &[u8]) -> Result<Found, Wrong>
     ensures { result ≡ scan (behind_at writes) rest.now }
 {
     if writes {
@@ -74,7 +90,7 @@ fn behind_at(writes: bool, rest: &[u8]) -> Found
     scan(b" at \x02\x1F", rest)
 }
 
-fn behind_name(writes: bool, rest: &[u8]) -> Found
+fn behind_name(writes: bool, rest: &[u8]) -> Result<Found, Wrong>
     ensures { result ≡ scan (behind_name writes) rest.now }
 {
     if writes {
@@ -85,41 +101,34 @@ fn behind_name(writes: bool, rest: &[u8]) -> Found
 
 // From the names on.
 #[tactic(auto, unfolding(crate::specs::Item::named))]
-fn named(writes: bool, supervisor: bool, width: u8, text: &[u8]) -> Item
+fn named(writes: bool, supervisor: bool, width: u8, text: &[u8]) -> Result<Item, Wrong>
     ensures { result ≡ named writes supervisor width text.now }
 {
     let k = name_length(text);
-    let f = behind_at(writes, &text[k..]);
-    if f.ok {
-        let numbers = f.numbers;
-        return access_at(writes, supervisor, width, text, k, numbers);
+    match behind_at(writes, &text[k..]) {
+        Ok(f) => access_at(writes, supervisor, width, text, k, f.numbers),
+        Err(w) => match behind_name(writes, &text[k..]) {
+            Ok(g) => access_named(writes, supervisor, width, text, k, g.numbers),
+            Err(v) => better(Err(w), Err(v)),
+        },
     }
-    let g = behind_name(writes, &text[k..]);
-    if g.ok {
-        let numbers = g.numbers;
-        return access_named(writes, supervisor, width, text, k, numbers);
-    }
-    better(
-        Item::Bad(Fault::NotUnderstood, f.left),
-        Item::Bad(Fault::NotUnderstood, g.left),
-    )
 }
 
 #[tactic(auto, unfolding(crate::specs::Item::access_item))]
-pub(crate) fn access_item(writes: bool, supervisor: bool, pattern: &[u8], text: &[u8]) -> Item
+pub(crate) fn access_item(
+    writes: bool,
+    supervisor: bool,
+    pattern: &[u8],
+    text: &[u8],
+) -> Result<Item, Wrong>
     ensures { result ≡ access_item writes supervisor pattern.now text.now }
 {
-    let f = scan(pattern, text);
-    let left = f.left;
-    if f.ok {
-        let numbers = f.numbers;
-        let from = text.len() - left;
-        return named(
-            writes,
-            supervisor,
-            (numbers.third % 128) as u8,
-            &text[from..],
-        );
-    }
-    Item::Bad(Fault::NotUnderstood, left)
+    let f = scan(pattern, text)?;
+    let from = text.len() - f.left;
+    named(
+        writes,
+        supervisor,
+        (f.numbers.third % 128) as u8,
+        &text[from..],
+    )
 }

@@ -8,25 +8,12 @@ use crate::scan::Figures;
 pub(crate) fn digit_of(b: u8) -> u8
     ensures { result ≡ digit_of b }
 {
-    if b < 48 {
-        return 16;
+    match b {
+        b'0'..=b'9' => b - b'0',
+        b'A'..=b'F' => b - b'A' + 10,
+        b'a'..=b'f' => b - b'a' + 10,
+        _ => 16,
     }
-    if b < 58 {
-        return b - 48;
-    }
-    if b < 65 {
-        return 16;
-    }
-    if b < 71 {
-        return b - 55;
-    }
-    if b < 97 {
-        return 16;
-    }
-    if b < 103 {
-        return b - 87;
-    }
-    16
 }
 
 // The first number that is too big for a field.
@@ -34,22 +21,13 @@ pub(crate) fn limit(c: u8) -> u64
     ensures value { result ≡ limit c }
     ensures upper_bound { result ≤ 4294967296 }
 {
-    if c == 1 {
-        return 256;
+    match c {
+        1 => 256,
+        2 | 6 => 65536,
+        4 => 2,
+        5 => 128,
+        _ => 4294967296,
     }
-    if c == 2 {
-        return 65536;
-    }
-    if c == 4 {
-        return 2;
-    }
-    if c == 5 {
-        return 128;
-    }
-    if c == 6 {
-        return 65536;
-    }
-    4294967296
 }
 
 // Whether a digit belongs to a number of a base that is to stay below a limit.
@@ -59,10 +37,7 @@ fn takes(base: u64, most: u64, n: u64, b: u8) -> bool
     ensures { result ≡ takes base most n b }
 {
     let d = digit_of(b) as u64;
-    if base <= d {
-        return false;
-    }
-    n * base + d < most
+    d < base && n * base + d < most
 }
 
 // The number of a base, below a limit, that a text begins with.
@@ -72,21 +47,15 @@ pub(crate) fn digits(base: u64, most: u64, text: &[u8]) -> Figures
     ensures value { result ≡ digits base most 0 0 text.now }
     ensures length_in_bounds { result.length ≤ length text.now }
 {
-    let mut n: u64 = 0;
-    let mut i = 0;
-    while i < text.len() {
-        let b = text[i];
-        if !takes(base, most, n, b) {
-            return Figures {
-                value: n,
-                length: i,
-            };
+    let mut value = 0;
+    for (length, b) in text.iter().enumerate() {
+        if !takes(base, most, value, *b) {
+            return Figures { value, length };
         }
-        n = n * base + digit_of(b) as u64;
-        i += 1;
+        value = value * base + digit_of(*b) as u64;
     }
     Figures {
-        value: n,
-        length: i,
+        value,
+        length: text.len(),
     }
 }

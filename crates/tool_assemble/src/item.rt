@@ -1,6 +1,6 @@
 // A line of text: a record of a trace, a text sent on RXD, nothing, or what is wrong with it and where.
 ghost use Rattle.std.specs.Prelude.{◌≡◌, ◌+◌, ◌≤◌, ◌<◌, length};
-ghost use Rattle.tool_assemble.specs.Item.{further, better, reset_item, hold_of, hold_item, colon, fronted, holds, reads, writes, entries, body_item, unblanked, item};
+ghost use Rattle.tool_assemble.specs.Item.{better, reset_item, hold_of, hold_item, colon, fronted, holds, reads, writes, entries, body_item, unblanked, item};
 
 use crate::accesses::access_item;
 use crate::figures::digit_of;
@@ -19,54 +19,37 @@ pub enum Fault {
     NoRate,
 }
 
-// What a line says: a record by its kind and event; a text sent on RXD; nothing; or what is wrong, with the bytes left from there on.
+// What is wrong with a line, with the bytes left from there on.
 #[derive(Clone, Copy)]
-pub enum Item {
-    Nothing,
-    Record(u8, Event),
-    Text(Sent),
-    Bad(Fault, usize),
+pub struct Wrong {
+    pub fault: Fault,
+    pub left: usize,
 }
 
-// The fault that was found further on, or what is no fault.
-fn further(f: Fault, left: usize, y: Item) -> Item
-    ensures { result ≡ further f left y }
-{
-    match y {
-        Item::Nothing => Item::Nothing,
-        Item::Record(kind, e) => Item::Record(kind, e),
-        Item::Text(s) => Item::Text(s),
-        Item::Bad(g, rest) => {
-            if rest < left {
-                Item::Bad(g, rest)
-            } else {
-                Item::Bad(f, left)
-            }
-        }
-    }
+// What a line says: a record by its kind and event, or a text sent on RXD.
+#[derive(Clone, Copy)]
+pub enum Item {
+    Record(u8, Event),
+    Text(Sent),
 }
 
 // The first of two that is not wrong; else what was understood further.
-pub(crate) fn better(x: Item, y: Item) -> Item
+pub(crate) fn better(x: Result<Item, Wrong>, y: Result<Item, Wrong>) -> Result<Item, Wrong>
     ensures { result ≡ better x y }
 {
-    match x {
-        Item::Nothing => Item::Nothing,
-        Item::Record(kind, e) => Item::Record(kind, e),
-        Item::Text(s) => Item::Text(s),
-        Item::Bad(f, left) => further(f, left, y),
+    match (x, y) {
+        (Err(w), Err(v)) => { if v.left < w.left { y } else { x } }
+        (Err(_), Ok(_)) => y,
+        (Ok(_), _) => x,
     }
 }
 
 #[tactic(auto, unfolding(crate::specs::Item::reset_item))]
-fn reset_item(text: &[u8]) -> Item
+fn reset_item(text: &[u8]) -> Result<Item, Wrong>
     ensures { result ≡ reset_item text.now }
 {
-    let f = scan(b"reset\x1F", text);
-    if f.ok {
-        return Item::Record(1, Event::Reset);
-    }
-    Item::Bad(Fault::NotUnderstood, f.left)
+    scan(b"reset\x1F", text)?;
+    Ok(Item::Record(1, Event::Reset))
 }
 
 fn hold_of(n: Numbers) -> Event
@@ -80,15 +63,11 @@ fn hold_of(n: Numbers) -> Event
 }
 
 #[tactic(auto, unfolding(crate::specs::Item::hold_item))]
-fn hold_item(kind: u8, pattern: &[u8], text: &[u8]) -> Item
+fn hold_item(kind: u8, pattern: &[u8], text: &[u8]) -> Result<Item, Wrong>
     ensures { result ≡ hold_item kind pattern.now text.now }
 {
-    let f = scan(pattern, text);
-    if f.ok {
-        let numbers = f.numbers;
-        return Item::Record(kind, hold_of(numbers));
-    }
-    Item::Bad(Fault::NotUnderstood, f.left)
+    let f = scan(pattern, text)?;
+    Ok(Item::Record(kind, hold_of(f.numbers)))
 }
 
 // A colon behind digits.
@@ -97,13 +76,7 @@ fn colon(b: u8, i: usize) -> usize
     ensures value { result ≡ colon b i }
     ensures upper_bound { result ≤ i + 1 }
 {
-    if b == 58 {
-        if 0 < i {
-            return i + 1;
-        }
-        return 0;
-    }
-    0
+    if b == b':' && 0 < i { i + 1 } else { 0 }
 }
 
 // The bytes of the number in front of a record and of the colon behind it, 0 if there are none.
@@ -111,19 +84,16 @@ fn fronted(text: &[u8]) -> usize
     ensures value { result ≡ fronted text.now }
     ensures upper_bound { result ≤ length text.now }
 {
-    let mut i = 0;
-    while i < text.len() {
-        let b = text[i];
-        if digit_of(b) > 9 {
-            return colon(b, i);
+    for (i, b) in text.iter().enumerate() {
+        if digit_of(*b) > 9 {
+            return colon(*b, i);
         }
-        i += 1;
     }
     0
 }
 
 #[tactic(auto, unfolding(crate::specs::Item::holds))]
-fn holds(text: &[u8]) -> Item
+fn holds(text: &[u8]) -> Result<Item, Wrong>
     ensures { result ≡ holds text.now }
 {
     better(
@@ -132,7 +102,7 @@ fn holds(text: &[u8]) -> Item
     )
 }
 
-fn reads(text: &[u8]) -> Item
+fn reads(text: &[u8]) -> Result<Item, Wrong>
     ensures { result ≡ reads text.now }
 {
     better(
@@ -141,7 +111,7 @@ fn reads(text: &[u8]) -> Item
     )
 }
 
-fn writes(text: &[u8]) -> Item
+fn writes(text: &[u8]) -> Result<Item, Wrong>
     ensures { result ≡ writes text.now }
 {
     better(
@@ -151,7 +121,7 @@ fn writes(text: &[u8]) -> Item
 }
 
 #[tactic(auto, unfolding(crate::specs::Item::entries))]
-fn entries(text: &[u8]) -> Item
+fn entries(text: &[u8]) -> Result<Item, Wrong>
     ensures { result ≡ entries text.now }
 {
     let accesses = better(reads(text), writes(text));
@@ -160,7 +130,7 @@ fn entries(text: &[u8]) -> Item
 }
 
 #[tactic(auto, unfolding(crate::specs::Item::body_item))]
-fn body_item(text: &[u8]) -> Item
+fn body_item(text: &[u8]) -> Result<Item, Wrong>
     ensures { result ≡ body_item text.now }
 {
     let n = blanks(text);
@@ -169,22 +139,22 @@ fn body_item(text: &[u8]) -> Item
 
 // Behind the blanks of a line.
 #[tactic(auto, unfolding(crate::specs::Item::unblanked))]
-fn unblanked(text: &[u8]) -> Item
+fn unblanked(text: &[u8]) -> Result<Option<Item>, Wrong>
     ensures { result ≡ unblanked text.now }
 {
-    let e = ending(text);
-    if e.ok {
-        return Item::Nothing;
+    if ending(text).is_some() {
+        return Ok(None);
     }
     let n = fronted(text);
-    body_item(&text[n..])
+    let item = body_item(&text[n..])?;
+    Ok(Some(item))
 }
 
-// What a line says, without the byte that ends it.
+// What a line says, without the byte that ends it: nothing, an item, or what is wrong with it.
 // Ruled out: a register's name that is not the offset's; a number too big for its field taken in part; a comment taken for a record; the
 // number in front of a record demanded.
 #[tactic(auto, unfolding(crate::specs::Item::item))]
-pub fn parse(line: &[u8]) -> Item
+pub fn parse(line: &[u8]) -> Result<Option<Item>, Wrong>
     ensures { result ≡ item line.now }
 {
     let n = blanks(line);

@@ -2,7 +2,7 @@
 ghost use Rattle.std.specs.Prelude.{◌≡◌, ◌≤◌, length};
 ghost use Rattle.text.specs.Line.{Shows};
 ghost use Rattle.text.specs.Register.{registers};
-ghost use Rattle.tool_assemble.specs.Names.{at_word, blank_stops, stops, name_length, begins, is_name, aligned, at_offset, added, joined, sought};
+ghost use Rattle.tool_assemble.specs.Names.{at_word, blank_stops, stops, name_length, is_name, aligned, at_offset, added, joined, sought};
 
 use crate::scan::{byte, is_blank};
 use text::line::Line;
@@ -47,32 +47,12 @@ pub(crate) fn name_length(text: &[u8]) -> usize
     ensures value { result ≡ name_length text.now }
     ensures upper_bound { result ≤ length text.now }
 {
-    let mut i = 0;
-    while i < text.len() {
+    for i in 0..text.len() {
         if stops(&text[i..]) {
             return i;
         }
-        i += 1;
     }
-    i
-}
-
-#[tactic(auto, using(crate::proofs::Reading::begins_none, crate::proofs::Reading::begins_short, crate::proofs::Reading::begins_at_holds, crate::proofs::Reading::end))]
-fn begins(word: &[u8], text: &[u8]) -> bool
-    ensures { result ≡ begins word.now text.now }
-{
-    let mut i = 0;
-    while i < word.len() {
-        if text.len() <= i {
-            return false;
-        }
-        let same = word[i] == text[i];
-        if !same {
-            return false;
-        }
-        i += 1;
-    }
-    true
+    text.len()
 }
 
 fn names(width: u8, offset: u16) -> Line
@@ -82,17 +62,12 @@ fn names(width: u8, offset: u16) -> Line
 }
 
 // Whether the first k bytes of a text are the names of what an access of that width touches at an offset.
-#[tactic(auto, using(crate::proofs::Reading::shown_take, crate::proofs::Reading::shown_length, crate::proofs::Reading::shown_within), unfolding(crate::specs::Names::is_name))]
+#[tactic(auto, using(crate::proofs::Reading::begins_is, crate::proofs::Reading::shown_take, crate::proofs::Reading::shown_length, crate::proofs::Reading::shown_within), unfolding(crate::specs::Names::is_name))]
 pub(crate) fn is_name(width: u8, offset: u16, text: &[u8], k: usize) -> bool
     ensures { result ≡ is_name width offset text.now k }
 {
     let line = names(width, offset);
-    let n = line.length;
-    let bytes = line.bytes;
-    if n == k {
-        return begins(&bytes[..n], text);
-    }
-    false
+    line.length == k && text.starts_with(&line.bytes[..line.length])
 }
 
 fn added(offset: u16, before: Offset) -> Offset
@@ -124,10 +99,7 @@ fn aligned(width: u8, offset: u16) -> bool
 fn at_offset(width: u8, offset: u16, text: &[u8], k: usize) -> bool
     ensures { result ≡ at_offset width offset text.now k }
 {
-    if aligned(width, offset) {
-        return is_name(width, offset, text, k);
-    }
-    false
+    aligned(width, offset) && is_name(width, offset, text, k)
 }
 
 // The offset below `end` whose names the first k bytes of a text are.
@@ -136,10 +108,8 @@ pub(crate) fn sought(width: u8, text: &[u8], k: usize, end: u16) -> Offset
     ensures { result ≡ sought width text.now k end }
 {
     let mut found = Offset::Nowhere;
-    let mut n: u16 = 0;
-    while n < end {
+    for n in 0..end {
         found = joined(at_offset(width, n, text, k), n, found);
-        n += 1;
     }
     found
 }

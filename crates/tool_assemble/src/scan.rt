@@ -1,8 +1,9 @@
 // A pattern held against a text: bytes, blanks and numbers, from left to right.
-ghost use Rattle.std.specs.Prelude.{◌≡◌, ◌+◌, ◌<◌, ◌≤◌, length, get_or};
-ghost use Rattle.tool_assemble.specs.Scan.{is_blank, blanks, nothing, some, number, numeral, literal, gap, commented, ending, element, pushed, scan};
+ghost use Rattle.std.specs.Prelude.{◌≡◌, ◌+◌, ◌<◌, ◌≤◌, length, get_or, Some, IfSome, IfOk};
+ghost use Rattle.tool_assemble.specs.Scan.{is_blank, blanks, bytes, number, numeral, literal, gap, commented, ending, element, pushed, scan};
 
 use crate::figures::{digits, limit};
+use crate::item::{Fault, Wrong};
 
 // What a text begins with: a number, and the bytes of it.
 #[derive(Clone, Copy)]
@@ -11,13 +12,11 @@ pub struct Figures {
     pub length: usize,
 }
 
-// What an element of a pattern takes of a text: whether it is there, its bytes, and its number if it is one.
+// What an element of a pattern takes of a text: its bytes, and its number if it is one.
 #[derive(Clone, Copy)]
 pub struct Taken {
-    pub ok: bool,
     pub length: usize,
-    pub pushes: bool,
-    pub value: u64,
+    pub value: Option<u64>,
 }
 
 // The last three numbers that a pattern found.
@@ -28,10 +27,9 @@ pub struct Numbers {
     pub third: u64,
 }
 
-// Whether a text is as the pattern says, its numbers, and the bytes left behind the pattern, or from where it is no more so.
+// A text that is as the pattern says: its numbers, and the bytes left behind the pattern.
 #[derive(Clone, Copy)]
 pub struct Found {
-    pub ok: bool,
     pub left: usize,
     pub numbers: Numbers,
 }
@@ -59,129 +57,108 @@ pub(crate) fn blanks(text: &[u8]) -> usize
     ensures value { result ≡ blanks text.now }
     ensures upper_bound { result ≤ length text.now }
 {
-    let mut i = 0;
-    while i < text.len() {
-        if !is_blank(text[i]) {
+    for (i, b) in text.iter().enumerate() {
+        if !is_blank(*b) {
             return i;
         }
-        i += 1;
     }
-    i
+    text.len()
 }
 
-fn nothing() -> Taken
-    ensures { result ≡ nothing }
+// What is no number, of so many bytes.
+fn bytes(length: usize) -> Option<Taken>
+    ensures { result ≡ bytes length }
 {
-    Taken {
-        ok: false,
-        length: 0,
-        pushes: false,
-        value: 0,
-    }
-}
-
-fn some(length: usize) -> Taken
-    ensures { result ≡ some length }
-{
-    Taken {
-        ok: true,
+    Some(Taken {
         length,
-        pushes: false,
-        value: 0,
-    }
+        value: None,
+    })
 }
 
 // Figures with so many bytes in front; no digits are no number.
-fn number(front: usize, d: Figures) -> Taken
+fn number(front: usize, d: Figures) -> Option<Taken>
     requires { d.length + front ≤ 18446744073709551615 }
     ensures value { result ≡ number front d }
-    ensures length_bound { result.length ≤ d.length + front }
+    ensures length_bound { IfSome result (λ e. e.length ≤ d.length + front) }
 {
     if d.length == 0 {
-        return nothing();
+        return None;
     }
-    Taken {
-        ok: true,
+    Some(Taken {
         length: d.length + front,
-        pushes: true,
-        value: d.value,
-    }
+        value: Some(d.value),
+    })
 }
 
 // A number in the base of its field, or one that is marked: $ hexadecimal, & decimal.
-fn numeral(c: u8, text: &[u8]) -> Taken
+#[tactic(auto, using(crate::proofs::Reading::numeral_none))]
+fn numeral(c: u8, text: &[u8]) -> Option<Taken>
     ensures value { result ≡ numeral c text.now }
-    ensures length_in_bounds { result.length ≤ length text.now }
+    ensures length_in_bounds { IfSome result (λ e. e.length ≤ length text.now) }
 {
-    if text.len() == 0 {
-        return nothing();
+    if text.is_empty() {
+        return None;
     }
-    let b = text[0];
     let most = limit(c);
-    if b == 36 {
-        return number(1, digits(16, most, &text[1..]));
+    match text[0] {
+        b'$' => number(1, digits(16, most, &text[1..])),
+        b'&' => number(1, digits(10, most, &text[1..])),
+        _ => {
+            if c < 4 {
+                number(0, digits(16, most, text))
+            } else {
+                number(0, digits(10, most, text))
+            }
+        }
     }
-    if b == 38 {
-        return number(1, digits(10, most, &text[1..]));
-    }
-    if c < 4 {
-        return number(0, digits(16, most, text));
-    }
-    number(0, digits(10, most, text))
 }
 
 #[tactic(auto, using(crate::proofs::Reading::literal_none, crate::proofs::Reading::literal_some))]
-fn literal(c: u8, text: &[u8]) -> Taken
+fn literal(c: u8, text: &[u8]) -> Option<Taken>
     ensures value { result ≡ literal c text.now }
-    ensures length_in_bounds { result.length ≤ length text.now }
+    ensures length_in_bounds { IfSome result (λ e. e.length ≤ length text.now) }
 {
-    if text.len() == 0 {
-        return nothing();
+    if text.is_empty() {
+        return None;
     }
-    if text[0] == c { some(1) } else { nothing() }
+    if text[0] == c { bytes(1) } else { None }
 }
 
 // One blank or more.
-fn gap(text: &[u8]) -> Taken
+fn gap(text: &[u8]) -> Option<Taken>
     ensures value { result ≡ gap text.now }
-    ensures length_in_bounds { result.length ≤ length text.now }
+    ensures length_in_bounds { IfSome result (λ e. e.length ≤ length text.now) }
 {
     let n = blanks(text);
-    if n == 0 {
-        return nothing();
-    }
-    some(n)
+    if n == 0 { None } else { bytes(n) }
 }
 
 // A comment behind so many blanks.
-fn commented(b: u8, n: usize) -> Taken
+fn commented(b: u8, n: usize) -> Option<Taken>
     ensures value { result ≡ commented b n }
-    ensures length_le_n { result.length ≤ n }
+    ensures length_le_n { IfSome result (λ e. e.length ≤ n) }
 {
-    if b == 35 {
-        return some(n);
-    }
-    nothing()
+    if b == b'#' { bytes(n) } else { None }
 }
 
 // The end of the line, with blanks and a comment before it or without.
 #[tactic(auto, using(crate::proofs::Reading::closed_none, crate::proofs::Reading::closed_some))]
-pub(crate) fn ending(text: &[u8]) -> Taken
+pub(crate) fn ending(text: &[u8]) -> Option<Taken>
     ensures value { result ≡ ending text.now }
-    ensures length_in_bounds { result.length ≤ length text.now }
+    ensures length_in_bounds { IfSome result (λ e. e.length ≤ length text.now) }
 {
     let n = blanks(text);
     if n < text.len() {
         return commented(text[n], n);
     }
-    some(n)
+    bytes(n)
 }
 
 // An element of a pattern: below 31 a number of that field, 31 the end of the line, 32 blanks, else that byte.
 #[tactic(auto, unfolding(crate::specs::Scan::element))]
-fn element(c: u8, text: &[u8]) -> Taken
+fn element(c: u8, text: &[u8]) -> Option<Taken>
     ensures value { result ≡ element c text.now }
-    ensures length_in_bounds { result.length ≤ length text.now }
+    ensures length_in_bounds { IfSome result (λ e. e.length ≤ length text.now) }
 {
     if c < 31 {
         return numeral(c, text);
@@ -206,44 +183,39 @@ impl Numbers {
         }
     }
 
-    fn pushed(self, e: Taken) -> Numbers
-        ensures { result ≡ pushed self e }
+    fn pushed(self, value: Option<u64>) -> Numbers
+        ensures { result ≡ pushed self value }
     {
-        if e.pushes {
-            return Numbers {
+        match value {
+            Some(v) => Numbers {
                 first: self.second,
                 second: self.third,
-                third: e.value,
-            };
+                third: v,
+            },
+            None => self,
         }
-        self
     }
 }
 
 // A text held against a pattern.
-pub(crate) fn scan(pattern: &[u8], text: &[u8]) -> Found
+pub(crate) fn scan(pattern: &[u8], text: &[u8]) -> Result<Found, Wrong>
     ensures value { result ≡ scan pattern.now text.now }
-    ensures left_in_bounds { result.left ≤ length text.now }
+    ensures left_in_bounds { IfOk result (λ f. f.left ≤ length text.now) }
 {
     let mut numbers = Numbers::none();
     let mut at = 0;
-    let mut i = 0;
-    while i < pattern.len() {
-        let e = element(pattern[i], &text[at..]);
-        if !e.ok {
-            return Found {
-                ok: false,
+    for c in pattern {
+        let Some(e) = element(*c, &text[at..]) else {
+            return Err(Wrong {
+                fault: Fault::NotUnderstood,
                 left: text.len() - at,
-                numbers,
-            };
-        }
-        numbers = numbers.pushed(e);
+            });
+        };
+        numbers = numbers.pushed(e.value);
         at += e.length;
-        i += 1;
     }
-    Found {
-        ok: true,
+    Ok(Found {
         left: text.len() - at,
         numbers,
-    }
+    })
 }

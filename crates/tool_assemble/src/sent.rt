@@ -1,6 +1,6 @@
 // A text sent on RXD: 8N1, a hold for each bit.
 ghost use Rattle.std.specs.Prelude.{◌≡◌, ◌≤◌, length};
-ghost use Rattle.tool_assemble.specs.Sent.{of, escaped, hex_pair, behind_backslash, spelled, character, quoted, level, edge, bit_clocks, hold_kind_of, bit_hold};
+ghost use Rattle.tool_assemble.specs.Sent.{of, escaped, hex_pair, behind_backslash, spelled, character, quoted, frame, level, edge, bit_clocks, hold_kind_of, bit_hold};
 
 use crate::figures::digit_of;
 use crate::scan::byte;
@@ -39,32 +39,21 @@ fn of(length: usize, byte: u8) -> Character
 fn escaped(b: u8) -> Character
     ensures { result ≡ escaped b }
 {
-    if b == 110 {
-        return of(2, 10);
+    match b {
+        b'n' => of(2, b'\n'),
+        b'r' => of(2, b'\r'),
+        b't' => of(2, b'\t'),
+        b'\\' => of(2, b'\\'),
+        b'"' => of(2, b'"'),
+        _ => of(0, 0),
     }
-    if b == 114 {
-        return of(2, 13);
-    }
-    if b == 116 {
-        return of(2, 9);
-    }
-    if b == 92 {
-        return of(2, 92);
-    }
-    if b == 34 {
-        return of(2, 34);
-    }
-    of(0, 0)
 }
 
 // \x and two hexadecimal digits.
 fn hex_pair(high: u8, low: u8) -> Character
     ensures { result ≡ hex_pair high low }
 {
-    if high > 15 {
-        return of(0, 0);
-    }
-    if low > 15 {
+    if high > 15 || low > 15 {
         return of(0, 0);
     }
     of(4, high * 16 + low)
@@ -113,51 +102,40 @@ pub(crate) fn quoted(text: &[u8]) -> usize
     ensures upper_bound { result ≤ length text.now }
 {
     let mut at = 0;
-    let mut left = text.len();
-    while left > 0 {
+    for turn in 0..text.len() {
         let c = first(&text[at..]);
-        let n = c.length;
-        if n == 0 {
+        if c.length == 0 {
             return at;
         }
-        at += n;
-        left -= 1;
+        at += c.length;
     }
     at
 }
 
-// The level of bit i of a frame: a start bit, eight bits of the byte, the lowest first, and a stop bit.
+// A frame: a start bit, eight bits of the byte, the lowest first, and a stop bit.
+fn frame(byte: u8) -> [bool; 10]
+    ensures { result ≡ frame byte }
+{
+    [
+        false,
+        byte % 2 == 1,
+        byte / 2 % 2 == 1,
+        byte / 4 % 2 == 1,
+        byte / 8 % 2 == 1,
+        byte / 16 % 2 == 1,
+        byte / 32 % 2 == 1,
+        byte / 64 % 2 == 1,
+        byte / 128 % 2 == 1,
+        true,
+    ]
+}
+
+// The level of bit i of a frame, and behind it.
 fn level(byte: u8, i: u8) -> bool
     ensures { result ≡ level byte i }
 {
-    if i < 1 {
-        return false;
-    }
-    if i < 2 {
-        return byte / 1 % 2 == 1;
-    }
-    if i < 3 {
-        return byte / 2 % 2 == 1;
-    }
-    if i < 4 {
-        return byte / 4 % 2 == 1;
-    }
-    if i < 5 {
-        return byte / 8 % 2 == 1;
-    }
-    if i < 6 {
-        return byte / 16 % 2 == 1;
-    }
-    if i < 7 {
-        return byte / 32 % 2 == 1;
-    }
-    if i < 8 {
-        return byte / 64 % 2 == 1;
-    }
-    if i < 9 {
-        return byte / 128 % 2 == 1;
-    }
-    true
+    let i = i as usize;
+    if i < 10 { frame(byte)[i] } else { true }
 }
 
 // The clock at which bit k of a text begins, from the beginning of the text: k x HZ / baud, rounded, halves up.
@@ -179,10 +157,7 @@ fn bit_clocks(s: Sent, k: u32) -> u64
 {
     let from = edge(s.baud, s.clock, k as u64);
     let to = edge(s.baud, s.clock, k as u64 + 1);
-    if from <= to {
-        return to - from;
-    }
-    0
+    to.saturating_sub(from)
 }
 
 fn hold_kind(clocks: u64) -> u8
@@ -197,8 +172,8 @@ pub fn bit_hold(s: Sent, byte: u8, i: u8, k: u32) -> Bit
     ensures { result ≡ bit_hold s byte i k }
 {
     let clocks = bit_clocks(s, k);
-    let kind = hold_kind(clocks);
-    let high = level(byte, i);
-    let event = Event::Hold(s.pins, high, (clocks % 4294967296) as u32);
-    Bit { kind, event }
+    Bit {
+        kind: hold_kind(clocks),
+        event: Event::Hold(s.pins, level(byte, i), (clocks % 4294967296) as u32),
+    }
 }

@@ -1,22 +1,16 @@
 use Rattle.tool_assemble.specs.Item.{behind_text}
 use Rattle.tool_assemble.proofs.texts.behind_text.Goals as goal
 
-pub returns-then-f : goal.returns-then-f
+pub returns-in-Ok : goal.returns-in-Ok
 unfolding behind_text
-returns-then-f c = rw (c.sent_of.ensures, ← c.scan-f.ensures.value, c.if-f.true)
+returns-in-Ok c = rw (c.sent_of.ensures, ← c.scan.ensures.value, c.in-Ok.is)
 
-pub returns-then-g : goal.returns-then-g
+pub returns-in-Ok-scan : goal.returns-in-Ok-scan
 unfolding behind_text
-returns-then-g c = rw (c.sent_of-then-g.ensures, ← c.scan-f.ensures.value, ← c.scan-g.ensures.value, c.if-f.false, c.if-g.true)
+returns-in-Ok-scan c =
+    rw (c.sent_of-in-Ok-scan.ensures, ← c.scan.ensures.value, c.in-Err.is, ← c.scan-in-Err.ensures.value, c.in-Ok-scan.is)
 
-pub returns-then-h : goal.returns-then-h
+pub returns-in-Err-scan : goal.returns-in-Err-scan
 unfolding behind_text
-returns-then-h c = rw (c.sent_of-then-h.ensures, ← c.scan-f.ensures.value, ← c.scan-g.ensures.value, ← c.scan-h.ensures.value, c.if-f.false, c.if-g.false, c.if-h.true)
-
-pub returns-then-i : goal.returns-then-i
-unfolding behind_text
-returns-then-i c = rw (c.sent_of-then-i.ensures, ← c.scan-f.ensures.value, ← c.scan-g.ensures.value, ← c.scan-h.ensures.value, ← c.scan-i.ensures.value, c.if-f.false, c.if-g.false, c.if-h.false, c.if-i.true)
-
-pub returns : goal.returns
-unfolding behind_text
-returns c = rw (c.better.ensures, ← c.scan-f.ensures.value, ← c.scan-g.ensures.value, ← c.scan-h.ensures.value, ← c.scan-i.ensures.value, c.if-f.false, c.if-g.false, c.if-h.false, c.if-i.false)
+returns-in-Err-scan c =
+    rw (c.with_pins.ensures, ← c.scan.ensures.value, c.in-Err.is, ← c.scan-in-Err.ensures.value, c.in-Err-scan.is)

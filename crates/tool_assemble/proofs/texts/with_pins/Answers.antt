@@ -1,0 +1,12 @@
+use Rattle.tool_assemble.proofs.texts.with_pins.Goals as goal
+
+pub returns-in-Ok : goal.returns-in-Ok
+returns-in-Ok c = rw (c.sent_of.ensures, ← c.scan.ensures.value, c.in-Ok.is)
+
+pub returns-in-Ok-scan : goal.returns-in-Ok-scan
+returns-in-Ok-scan c =
+    rw (c.sent_of-in-Ok-scan.ensures, ← c.scan.ensures.value, c.in-Err.is, ← c.scan-in-Err.ensures.value, c.in-Ok-scan.is)
+
+pub returns-in-Err-scan : goal.returns-in-Err-scan
+returns-in-Err-scan c =
+    rw (c.better.ensures, ← c.scan.ensures.value, c.in-Err.is, ← c.scan-in-Err.ensures.value, c.in-Err-scan.is)
