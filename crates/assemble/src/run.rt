@@ -38,10 +38,9 @@ struct Run {
 
 fn write_record(to: &Sink, kind: u8, e: Event) -> Result<(), Stop> {
     let r = encode(kind, e);
-    if write_first(to, &r.bytes, r.length) {
-        Ok(())
-    } else {
-        Err(Stop::NotWritten)
+    match write_first(to, &r.bytes, r.length) {
+        Ok(()) => Ok(()),
+        Err(_) => Err(Stop::NotWritten),
     }
 }
 
@@ -124,10 +123,9 @@ pub fn assemble<R: System>(rt: &R, from: &Origin, to: &Sink) -> Result<u64, Stop
     let mut buf = io::large_buffer();
     let mut run = Run::start();
     for _ in 0..u64::MAX {
-        let f = fill(rt, from, &mut buf, 0, false);
-        if f.failed {
+        let Ok(f) = fill(rt, from, &mut buf, 0, false) else {
             return Err(Stop::NotRead);
-        }
+        };
         if f.ended {
             run.end_line(to)?;
             return Ok(run.records);

@@ -115,18 +115,18 @@ fn files_of<R: System>(rt: &R, from: usize) -> Status {
     let mut name = io::buffer();
     let a = files::input::open_from(rt, from, b"compare", 0, &mut name);
     let b = files::input::open_from(rt, from, b"compare", 1, &mut name);
-    let Some(first) = a.from else {
+    let Some(first) = a else {
         return Status::Failed;
     };
-    let Some(second) = b.from else {
+    let Some(second) = b else {
         return Status::Failed;
     };
-    opened(rt, &first, &second)
+    opened(rt, &first.from, &second.from)
 }
 
 // The command, whose words begin at an argument.
 pub fn run<R: System>(rt: &R, from: usize) -> Status {
-    let c = files::command::read_from(
+    let read = files::command::read_from(
         rt,
         from,
         b"compare",
@@ -150,8 +150,8 @@ an answer's, 10 or 18 (refusal 6): it ends within an answer. To compare an archi
 Exit status: 0 equal, 1 differ, 2 refused or could not be done.
 ",
     );
-    if !c.go {
-        return worse(c.wrong, Status::Done);
+    match read {
+        Ok(_) => files_of(rt, from),
+        Err(why) => Status::from(why),
     }
-    files_of(rt, from)
 }

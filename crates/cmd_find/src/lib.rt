@@ -79,12 +79,10 @@ fn look<R: System>(
 // The trace that the first word of the command names.
 fn open<R: System>(rt: &R, from: usize, lent: &[u64], count: usize, number: u64) -> Status {
     let mut name = io::buffer();
-    let i = files::input::open_from(rt, from, b"find", 0, &mut name);
-    let n = i.name;
-    let Some(input) = i.from else {
+    let Some(input) = files::input::open_from(rt, from, b"find", 0, &mut name) else {
         return Status::Failed;
     };
-    look(rt, &input, &name[..n], lent, count, number)
+    look(rt, &input.from, &name[..input.name], lent, count, number)
 }
 
 // The marks of the file that the second word names.
@@ -107,7 +105,7 @@ fn wanted<R: System>(rt: &R, from: usize) -> Option<u64> {
 
 // The command, whose words begin at an argument.
 pub fn run<R: System>(rt: &R, from: usize) -> Status {
-    let c = files::command::read_from(
+    let read = files::command::read_from(
         rt,
         from,
         b"find",
@@ -129,8 +127,8 @@ A record that is not there is refused on standard error: refusal 2. With an inde
 Exit status: 0 the record is printed, 1 there is no such record, 2 could not be done.
 ",
     );
-    if !c.go {
-        return worse(c.wrong, Status::Done);
+    if let Err(why) = read {
+        return Status::from(why);
     }
     let Some(number) = wanted(rt, from) else {
         say(b"find", b"NUMBER is no decimal number\n");

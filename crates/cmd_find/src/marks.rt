@@ -1,5 +1,5 @@
 // The marks that a file has.
-ghost use Rattle.std.specs.Prelude.{◌≡◌};
+ghost use Rattle.std.specs.Prelude.{◌≡◌, IfOk};
 ghost use Rattle.io.specs.Counts.{IsPrefixLen};
 ghost use Rattle.cmd_find.specs.Marks.{are_marks};
 
@@ -35,30 +35,29 @@ fn of(read: bool, count: usize) -> Marks
 }
 
 // Reads until the file ends, a read fails or the buffer is full.
-fn read_all<R: System>(rt: &R, from: &Origin, buf: &mut [u8]) -> Filled
-    ensures { IsPrefixLen result.total buf.new }
+fn read_all<R: System>(rt: &R, from: &Origin, buf: &mut [u8]) -> std::io::Result<Filled>
+    ensures { IfOk result (λ f. IsPrefixLen f.total buf.new) }
 {
     let mut f = Filled {
         total: 0,
         ended: false,
-        failed: false,
     };
-    let mut turns = u64::MAX;
-    while turns > 0 {
-        f = fill(rt, from, buf, f.total, false);
+    for _ in 0..u64::MAX {
+        f = fill(rt, from, buf, f.total, false)?;
         if f.ended | (f.total >= buf.len()) {
-            return f;
+            break;
         }
-        turns -= 1;
     }
-    f
+    Ok(f)
 }
 
-// Whether a file has ended.
+// Whether a file has ended, or can't be read on.
 fn at_end<R: System>(rt: &R, from: &Origin) -> bool {
     let mut one = [0u8; 1];
-    let f = fill(rt, from, &mut one, 0, false);
-    f.ended
+    match fill(rt, from, &mut one, 0, false) {
+        Ok(f) => f.ended,
+        Err(_) => true,
+    }
 }
 
 // The marks of an open file. What can't be read and what is no file of marks is said.
@@ -70,12 +69,14 @@ fn decode_all<R: System>(
     lent: &mut [u64],
 ) -> Marks {
     let mut stored = io::large_buffer();
-    let f = read_all(rt, from, &mut stored);
+    let f = match read_all(rt, from, &mut stored) {
+        Ok(f) => f,
+        Err(e) => {
+            fail(program, path, e);
+            return of(false, 0);
+        }
+    };
     let n = f.total;
-    if f.failed {
-        fail(program, path, from.error());
-        return of(false, 0);
-    }
     if are_marks(n, f.ended | at_end(rt, from)) {
         return of(true, decode(&stored[..n], lent));
     }

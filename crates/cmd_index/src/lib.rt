@@ -93,12 +93,10 @@ fn extend<R: System>(
 // The trace that the first word of the command names.
 fn open<R: System>(rt: &R, from: usize, path: &[u8], lent: &mut [u64], count: usize) -> Status {
     let mut name = io::buffer();
-    let i = files::input::open_from(rt, from, b"index", 0, &mut name);
-    let n = i.name;
-    let Some(input) = i.from else {
+    let Some(input) = files::input::open_from(rt, from, b"index", 0, &mut name) else {
         return Status::Failed;
     };
-    extend(rt, &input, &name[..n], path, lent, count)
+    extend(rt, &input.from, &name[..input.name], path, lent, count)
 }
 
 // The marks of the file that the second word names, if there is one, and then those of the trace.
@@ -115,7 +113,7 @@ fn by_marks<R: System>(rt: &R, from: usize) -> Status {
 
 // The command, whose words begin at an argument.
 pub fn run<R: System>(rt: &R, from: usize) -> Status {
-    let c = files::command::read_from(
+    let read = files::command::read_from(
         rt,
         from,
         b"index",
@@ -137,8 +135,8 @@ An index has at most 4,096 marks; where a trace needs more, the file is left as 
 Exit status: 0 the whole trace is indexed, 1 it is indexed up to a stop, 2 could not be done.
 ",
     );
-    if !c.go {
-        return worse(c.wrong, Status::Done);
+    match read {
+        Ok(_) => by_marks(rt, from),
+        Err(why) => Status::from(why),
     }
-    by_marks(rt, from)
 }

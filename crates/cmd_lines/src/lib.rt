@@ -5,7 +5,7 @@ ghost use Rattle.std.specs.Prelude.{◌≡◌, min};
 
 use console::message::say_line;
 use console::output::{Out, flush};
-use console::status::{Status, worse};
+use console::status::Status;
 use ending::{status, stop_line};
 use files::message::{fail, say, say_of};
 use files::origin::Origin;
@@ -75,12 +75,10 @@ fn at_most(k: u64) -> u32
 // The trace that the second word of the command names.
 fn open<R: System>(rt: &R, from: usize, wanted: Wanted) -> Status {
     let mut name = io::buffer();
-    let i = files::input::open_from(rt, from, b"lines", 1, &mut name);
-    let n = i.name;
-    let Some(input) = i.from else {
+    let Some(input) = files::input::open_from(rt, from, b"lines", 1, &mut name) else {
         return Status::Failed;
     };
-    play(rt, wanted, &input, &name[..n])
+    play(rt, wanted, &input.from, &name[..input.name])
 }
 
 // The period that the first word names.
@@ -103,7 +101,7 @@ fn by_period<R: System>(rt: &R, from: usize, noise: bool) -> Status {
 
 // The command, whose words begin at an argument.
 pub fn run<R: System>(rt: &R, from: usize) -> Status {
-    let c = files::command::read_from(
+    let read = files::command::read_from(
         rt,
         from,
         b"lines",
@@ -142,8 +140,8 @@ on standard error, with its place in bytes:
 Exit status: 0 no line was dropped, 1 a line was dropped or the trace stopped, 2 could not be done.
 ",
     );
-    if !c.go {
-        return worse(c.wrong, Status::Done);
+    match read {
+        Ok(c) => by_period(rt, from, c.option),
+        Err(why) => Status::from(why),
     }
-    by_period(rt, from, c.option)
 }

@@ -86,7 +86,7 @@ fn replay<R: System>(rt: &R, noise: bool, account: bool, from: &Origin, name: &[
 
 // The command, whose words begin at an argument.
 pub fn run<R: System>(rt: &R, from: usize) -> Status {
-    let c = files::command::read_from(
+    let read = files::command::read_from(
         rt,
         from,
         b"replay",
@@ -124,14 +124,13 @@ others were read. The log is the same; both options may be given.
 Exit status: 0 all answered, 1 the trace stopped, 2 could not be done.
 ",
     );
-    if !c.go {
-        return worse(c.wrong, Status::Done);
-    }
+    let c = match read {
+        Ok(c) => c,
+        Err(why) => return Status::from(why),
+    };
     let mut name = io::buffer();
-    let i = files::input::open_from(rt, from, b"replay", 0, &mut name);
-    let n = i.name;
-    let Some(input) = i.from else {
+    let Some(input) = files::input::open_from(rt, from, b"replay", 0, &mut name) else {
         return Status::Failed;
     };
-    replay(rt, c.option, c.second, &input, &name[..n])
+    replay(rt, c.option, c.second, &input.from, &name[..input.name])
 }

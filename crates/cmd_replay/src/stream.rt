@@ -7,7 +7,7 @@ use crate::piece::{Next, Run, step};
 use console::input::{Source, more};
 use console::output::{Out, flush};
 use files::origin::Origin;
-use files::pieces::{counted, least};
+use files::pieces::counted;
 use files::system::{Sink, System};
 
 // The run, the output, the input with how many bytes of its buffer were played, and what follows.
@@ -90,8 +90,8 @@ fn play_on(to: &Sink, t: Turned, buf: &[u8], lines: &mut [u8], room: &mut [u8]) 
     ensures { Turns t.run (length room.old) result }
 {
     let source = t.source;
-    let end = least(source.total, buf.len());
-    let from = least(t.at, end);
+    let end = source.total.min(buf.len());
+    let from = t.at.min(end);
     let run = t.run;
     let s = step(run, to, t.out, lines, &buf[from..end], source.ended, room);
     let past = s.run;

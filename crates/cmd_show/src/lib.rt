@@ -60,7 +60,7 @@ fn show<R: System>(rt: &R, traces: bool, from: &Origin, name: &[u8]) -> Status {
 
 // The command, whose words begin at an argument.
 pub fn run<R: System>(rt: &R, from: usize) -> Status {
-    let c = files::command::read_from(
+    let read = files::command::read_from(
         rt,
         from,
         b"show",
@@ -89,15 +89,13 @@ What is no log or no trace is reported on standard error, with its number from 0
 place in bytes; what came before it is printed.
 ",
     );
-    if !c.go {
-        return console::status::worse(c.wrong, Status::Done);
-    }
-    let traces = c.option;
+    let c = match read {
+        Ok(c) => c,
+        Err(why) => return Status::from(why),
+    };
     let mut name = io::buffer();
-    let i = files::input::open_from(rt, from, b"show", 0, &mut name);
-    let n = i.name;
-    let Some(input) = i.from else {
+    let Some(input) = files::input::open_from(rt, from, b"show", 0, &mut name) else {
         return Status::Failed;
     };
-    show(rt, traces, &input, &name[..n])
+    show(rt, c.option, &input.from, &name[..input.name])
 }

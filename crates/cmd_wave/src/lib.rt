@@ -6,7 +6,7 @@ ghost use Rattle.cmd_wave.specs.Rate.{rate};
 
 use console::message::say_line;
 use console::output::{Out, flush, put, put_line};
-use console::status::{Status, worse};
+use console::status::Status;
 use ending::{status, stop_line};
 use files::command::Command;
 use files::message::{fail, say};
@@ -120,12 +120,10 @@ fn draw<R: System>(rt: &R, hz: u32, from: &Origin, name: &[u8]) -> Status {
 // The trace that a word of the command names.
 fn open<R: System>(rt: &R, from: usize, hz: u32, word: usize) -> Status {
     let mut name = io::buffer();
-    let i = files::input::open_from(rt, from, b"wave", word, &mut name);
-    let n = i.name;
-    let Some(input) = i.from else {
+    let Some(input) = files::input::open_from(rt, from, b"wave", word, &mut name) else {
         return Status::Failed;
     };
-    draw(rt, hz, &input, &name[..n])
+    draw(rt, hz, &input.from, &name[..input.name])
 }
 
 // A clock in Hz, or 0 where a number is none.
@@ -168,7 +166,7 @@ fn start<R: System>(rt: &R, from: usize, c: Command) -> Status {
 
 // The command, whose words begin at an argument.
 pub fn run<R: System>(rt: &R, from: usize) -> Status {
-    let c = files::command::read_from(
+    let read = files::command::read_from(
         rt,
         from,
         b"wave",
@@ -196,8 +194,8 @@ A stop is said on standard error, with its place in bytes; the file up to there 
 Exit status: 0 drawn to the end, 1 the trace stopped, 2 could not be done.
 ",
     );
-    if !c.go {
-        return worse(c.wrong, Status::Done);
+    match read {
+        Ok(c) => start(rt, from, c),
+        Err(why) => Status::from(why),
     }
-    start(rt, from, c)
 }

@@ -40,11 +40,19 @@ pub fn more<R: System>(rt: &R, from: &Origin, source: Source, buf: &mut [u8], at
     ensures reads { Reads source buf.old at result buf.new }
 {
     let have = carry(buf, at, source.total);
-    let f = fill(rt, from, buf, have, source.ended);
     let mut now = source;
-    now.total = f.total;
     now.place = counted(source.place, at);
-    now.ended = f.ended;
-    now.failed = f.failed;
+    match fill(rt, from, buf, have, source.ended) {
+        Ok(f) => {
+            now.total = f.total;
+            now.ended = f.ended;
+            now.failed = false;
+        }
+        Err(_) => {
+            now.total = have;
+            now.ended = true;
+            now.failed = true;
+        }
+    }
     now
 }

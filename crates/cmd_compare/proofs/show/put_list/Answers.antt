@@ -3,7 +3,7 @@ use Rattle.cmd_compare.proofs.Giving.{starts, goes, ends}
 use Rattle.cmd_compare.proofs.show.put_list.Goals as goal
 
 pub loop-i-init : goal.loop-i-init
-loop-i-init c = (omega arith, c.least-n.ensures, starts _ _ _ _ _ _ _)
+loop-i-init c = (omega arith, c.min-n.ensures, starts _ _ _ _ _ _ _)
 
 pub loop-i-preserved : goal.loop-i-preserved
 loop-i-preserved c =

@@ -21,5 +21,5 @@ shape_of-buf c = c.loop-i.invariant.2.room
 pub returns : goal.returns
 returns c =
     let args = c.args in
-    let all : min args.count (length args.lent.now / 2) ≡ c.loop-i.i = omega (arith, c.least-n.ensures) in
+    let all : min args.count (length args.lent.now / 2) ≡ c.loop-i.i = omega (arith, c.min-n.ensures) in
     rw all c.loop-i.invariant.2
