@@ -17,8 +17,9 @@ use Rattle.answers.specs.declared.Field.{Field}
 use Rattle.answers.specs.declared.Field.TheVariants.{Kind, Refusal, Value, Levels, Mask, Level, Vector, Clock}
 use Rattle.tool_judge.specs.Verdict.{alike, first_wrong, short, wrong_in, verdict}
 use Rattle.tool_judge.specs.Judge.{enough, expected}
-use Rattle.tool_judge.specs.declared.Verdict.{Verdict}
-use Rattle.tool_judge.specs.declared.Verdict.TheVariants.{Accepted, Wrong}
+use Rattle.tool_judge.specs.Numbers.{number_of}
+use Rattle.tool_judge.specs.Verdict.{Verdict, accept, reject}
+use Rattle.std.specs.Prelude.{Ok, Err}
 use Rattle.tool_judge.proofs.Beginnings.{alike_self}
 use Rattle.tool_judge.proofs.Laws.{any_room, same_start, further_on, judging}
 use Rattle.answers.proofs.Laws.{laws}
@@ -29,23 +30,27 @@ use Rattle.claims_judging.specs.Verdicts.{right, answer, Accepts, start, bytes, 
 -- ---- what a verdict says
 
 abbrev good : Verdict → Bool
-good Accepted = true
-good (Wrong k f) = false
+good (Ok x) = true
+good (Err w) = false
+
+abbrev field_in : Verdict → Field
+field_in (Ok x) = Kind
+field_in (Err w) = w.field
 
 record Says (x y : List ℕ) (k : ℕ) (f : Field) : Type 0 where
   number : k ≡ first_wrong x y
   field_is : f ≡ wrong_in x y k
   unequal : x ≡ y → ⊥
 
-said : (x y : List ℕ) (k : ℕ) (f : Field) → Wrong (first_wrong x y) (wrong_in x y (first_wrong x y)) ≡ Wrong k f → (x ≡ y → ⊥) → Says x y k f
+said : (x y : List ℕ) (k : ℕ) (f : Field) → reject (first_wrong x y) (wrong_in x y (first_wrong x y)) ≡ reject k f → (x ≡ y → ⊥) → Says x y k f
 said x y k f is ne =
-    let number : first_wrong x y ≡ k = cc in
-    let first : wrong_in x y (first_wrong x y) ≡ f = cc in
+    let number : first_wrong x y ≡ k = ap number_of is in
+    let first : wrong_in x y (first_wrong x y) ≡ f = ap field_in is in
     record { number = sym number; field_is = sym first ∙ ap (wrong_in x y) number; unequal = ne }
 
-says : (x y : List ℕ) (k : ℕ) (f : Field) (s t : Bool) → eqb (alike x y) (length x) ≡ s → eqb (alike x y) (length y) ≡ t → verdict x y ≡ Wrong k f → Says x y k f
+says : (x y : List ℕ) (k : ℕ) (f : Field) (s t : Bool) → eqb (alike x y) (length x) ≡ s → eqb (alike x y) (length y) ≡ t → verdict x y ≡ reject k f → Says x y k f
 unfolding verdict
-says x y k f true true p q e = let no : Accepted ≡ Wrong k f = rw (p, q) at e in absurd (true≢false (ap good no))
+says x y k f true true p q e = let no : accept ≡ reject k f = rw (p, q) at e in absurd (true≢false (ap good no))
 says x y k f true false p q e =
     said x y k f (rw (p, q) at e) (λ h. eqb-false _ _ q (sym (ap (alike x) h) ∙ alike_self x ∙ ap length h))
 says x y k f false t p q e = said x y k f (rw p at e) (λ h. eqb-false _ _ p (sym (ap (alike x) h) ∙ alike_self x))

@@ -4,7 +4,7 @@ use Rattle.answers.specs.declared.Field.TheVariants.{Kind, Refusal, Value, Level
 use Rattle.tool_judge.specs.Judge.{judged}
 use Rattle.tool_judge.specs.Numbers.{in_numbers}
 use Rattle.tool_judge.specs.declared.numbers.Judgement.{Judgement}
-use Rattle.tool_judge.specs.declared.Verdict.TheVariants.{Accepted, Wrong}
+use Rattle.tool_judge.specs.Verdict.{accept, reject}
 use Rattle.claims_judging.specs.Verdicts.{stop_of}
 
 abbrev pub trace : List ℕ
@@ -30,38 +30,38 @@ abbrev pub cut : List ℕ
 cut = trace ++ (0x03 ∷ [])
 
 pub record Cases : Type 0 where
-  pub right : (judged trace log).verdict ≡ Accepted
+  pub right : (judged trace log).verdict ≡ accept
   pub ends : stop_of (judged trace log) ≡ 0
   -- Each byte of the second answer.
-  pub kind : (judged trace (changed 18 log)).verdict ≡ Wrong 1 Kind
-  pub refusal : (judged trace (changed 19 log)).verdict ≡ Wrong 1 Refusal
-  pub value_1 : (judged trace (changed 20 log)).verdict ≡ Wrong 1 Value
-  pub value_2 : (judged trace (changed 21 log)).verdict ≡ Wrong 1 Value
-  pub value_3 : (judged trace (changed 22 log)).verdict ≡ Wrong 1 Value
-  pub value_4 : (judged trace (changed 23 log)).verdict ≡ Wrong 1 Value
-  pub levels : (judged trace (changed 24 log)).verdict ≡ Wrong 1 Levels
-  pub mask : (judged trace (changed 25 log)).verdict ≡ Wrong 1 Mask
-  pub level : (judged trace (changed 26 log)).verdict ≡ Wrong 1 Level
-  pub vector : (judged trace (changed 27 log)).verdict ≡ Wrong 1 Vector
-  pub clock_1 : (judged trace (changed 28 log)).verdict ≡ Wrong 1 Clock
-  pub clock_8 : (judged trace (changed 35 log)).verdict ≡ Wrong 1 Clock
+  pub kind : (judged trace (changed 18 log)).verdict ≡ reject 1 Kind
+  pub refusal : (judged trace (changed 19 log)).verdict ≡ reject 1 Refusal
+  pub value_1 : (judged trace (changed 20 log)).verdict ≡ reject 1 Value
+  pub value_2 : (judged trace (changed 21 log)).verdict ≡ reject 1 Value
+  pub value_3 : (judged trace (changed 22 log)).verdict ≡ reject 1 Value
+  pub value_4 : (judged trace (changed 23 log)).verdict ≡ reject 1 Value
+  pub levels : (judged trace (changed 24 log)).verdict ≡ reject 1 Levels
+  pub mask : (judged trace (changed 25 log)).verdict ≡ reject 1 Mask
+  pub level : (judged trace (changed 26 log)).verdict ≡ reject 1 Level
+  pub vector : (judged trace (changed 27 log)).verdict ≡ reject 1 Vector
+  pub clock_1 : (judged trace (changed 28 log)).verdict ≡ reject 1 Clock
+  pub clock_8 : (judged trace (changed 35 log)).verdict ≡ reject 1 Clock
   -- The last byte of the first answer; two bytes wrong, in one answer and in two.
-  pub first_answer : (judged trace (changed 17 log)).verdict ≡ Wrong 0 Clock
-  pub first_field : (judged trace (changed 24 (changed 19 log))).verdict ≡ Wrong 1 Refusal
-  pub first_of_two : (judged trace (changed 19 (changed 5 log))).verdict ≡ Wrong 0 Value
+  pub first_answer : (judged trace (changed 17 log)).verdict ≡ reject 0 Clock
+  pub first_field : (judged trace (changed 24 (changed 19 log))).verdict ≡ reject 1 Refusal
+  pub first_of_two : (judged trace (changed 19 (changed 5 log))).verdict ≡ reject 0 Value
   -- Cut, missing, surplus: the kind, a wrong byte before the cut or not.
-  pub cut_answer : (judged trace (take 35 log)).verdict ≡ Wrong 1 Kind
-  pub wrong_and_cut : (judged trace (changed 20 (take 35 log))).verdict ≡ Wrong 1 Kind
-  pub missing : (judged trace (take 18 log)).verdict ≡ Wrong 1 Kind
-  pub none_at_all : (judged trace []).verdict ≡ Wrong 0 Kind
-  pub surplus : (judged trace (log ++ (0x11 ∷ []))).verdict ≡ Wrong 2 Kind
-  pub surplus_answer : (judged trace (log ++ take 18 log)).verdict ≡ Wrong 2 Kind
+  pub cut_answer : (judged trace (take 35 log)).verdict ≡ reject 1 Kind
+  pub wrong_and_cut : (judged trace (changed 20 (take 35 log))).verdict ≡ reject 1 Kind
+  pub missing : (judged trace (take 18 log)).verdict ≡ reject 1 Kind
+  pub none_at_all : (judged trace []).verdict ≡ reject 0 Kind
+  pub surplus : (judged trace (log ++ (0x11 ∷ []))).verdict ≡ reject 2 Kind
+  pub surplus_answer : (judged trace (log ++ take 18 log)).verdict ≡ reject 2 Kind
   -- Stops: told of a right log, and of one that is wrong before.
-  pub right_before_5 : (judged unknown log).verdict ≡ Accepted
+  pub right_before_5 : (judged unknown log).verdict ≡ accept
   pub stops_5 : stop_of (judged unknown log) ≡ 5
-  pub wrong_before_5 : (judged unknown (changed 1 log)).verdict ≡ Wrong 0 Refusal
+  pub wrong_before_5 : (judged unknown (changed 1 log)).verdict ≡ reject 0 Refusal
   pub stops_5_too : stop_of (judged unknown (changed 1 log)) ≡ 5
-  pub right_before_6 : (judged cut log).verdict ≡ Accepted
+  pub right_before_6 : (judged cut log).verdict ≡ accept
   pub stops_6 : stop_of (judged cut (changed 1 log)) ≡ 6
   pub stops_6_short : stop_of (judged cut []) ≡ 6
 

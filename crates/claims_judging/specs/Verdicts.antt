@@ -8,7 +8,7 @@ use Rattle.answers.specs.declared.Field.TheVariants.{Kind, Refusal, Value, Level
 use Rattle.tool_judge.specs.Judge.{judged, walked}
 use Rattle.tool_judge.specs.Claims.{afterwards}
 use Rattle.tool_judge.specs.declared.Judged.{Judged}
-use Rattle.tool_judge.specs.declared.Verdict.TheVariants.{Accepted, Wrong}
+use Rattle.tool_judge.specs.Verdict.{accept, reject}
 use Rattle.tool_judge.specs.declared.Walked.{Walked}
 
 -- Room enough: a record has at least one byte.
@@ -32,7 +32,7 @@ answer log k = take 18 (drop (18 * k) log)
 abbrev pub Accepts : Type 0
 Accepts =
     (t log : List ℕ) (room : ℕ) → Enough t room →
-    ((judged t log).verdict ≡ Accepted → log ≡ right t room) × (log ≡ right t room → (judged t log).verdict ≡ Accepted)
+    ((judged t log).verdict ≡ accept → log ≡ right t room) × (log ≡ right t room → (judged t log).verdict ≡ accept)
 
 -- ---- the first wrong answer
 
@@ -73,7 +73,7 @@ pub record WrongAt (ours log : List ℕ) (k : ℕ) (f : Field) : Type 0 where
 
 abbrev pub FirstWrong : Type 0
 FirstWrong =
-    (t log : List ℕ) (room k : ℕ) (f : Field) → Enough t room → (judged t log).verdict ≡ Wrong k f → WrongAt (right t room) log k f
+    (t log : List ℕ) (room k : ℕ) (f : Field) → Enough t room → (judged t log).verdict ≡ reject k f → WrongAt (right t room) log k f
 
 -- ---- the stop
 

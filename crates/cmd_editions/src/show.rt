@@ -6,7 +6,7 @@ use crate::file::within;
 use console::output::{Out, put_line};
 use files::system::Sink;
 use text::line::Line;
-use tool_editions::records::{Edition, Parsed, Record};
+use tool_editions::records::{Edition, Record, parse};
 
 pub fn edition_line(e: Edition, withdrawn: bool) -> Line {
     let line = Line::empty()
@@ -93,12 +93,11 @@ pub fn list(to: &Sink, out: Out, lines: &mut [u8], buf: &[u8]) -> Out {
     let mut at: usize = 0;
     for _ in 0..64 {
         let from = within(at, buf);
-        let p = tool_editions::records::parse(&buf[from..]);
-        let Parsed::Whole(r) = p else {
+        let Ok(r) = parse(&buf[from..]) else {
             return given;
         };
         given = show(to, given, lines, buf, r);
-        at = from.saturating_add(tool_editions::records::size(r));
+        at = from.saturating_add(r.size());
     }
     given
 }

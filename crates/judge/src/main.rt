@@ -4,7 +4,7 @@
 use files::message::{fail, say};
 use files::origin::Origin;
 use files::system::Sink;
-use run::{Next, Run, Turned};
+use run::{Failure, Run};
 use text::message::stop_line;
 use trace::Stop;
 
@@ -23,14 +23,14 @@ fn stop_of(number: u8) -> Stop {
 }
 
 // The end of the trace, or the record that stopped it.
-fn tell_stop(to: &Sink, stop: u8, at: Run) -> bool {
+fn tell_stop(to: &Sink, stop: u8, at: &Run) -> bool {
     if stop == 0 {
         return to.write_all(b"end of the trace\n").is_ok();
     }
     show::write_line(to, stop_line(stop_of(stop), at.records, at.place))
 }
 
-fn tell_end(to: &Sink, at: Run, stop: u8) -> bool {
+fn tell_end(to: &Sink, at: &Run, stop: u8) -> bool {
     if at.wrong {
         return tell_stop(to, stop, at);
     }
@@ -38,24 +38,12 @@ fn tell_end(to: &Sink, at: Run, stop: u8) -> bool {
     told & tell_stop(to, stop, at)
 }
 
-fn report(t: Turned, trace: &Origin, log: &Origin, to: &Sink) {
-    let at = t.run;
-    let next = t.next;
-    match next {
-        Next::Done(stop) => {
-            if !tell_end(to, at, stop) {
-                fail(b"judge", b"standard output", to.error());
-            }
-        }
-        Next::NotRead(first) => {
-            if first {
-                fail(b"judge", b"TRACE", trace.error());
-            } else {
-                fail(b"judge", b"LOG", log.error());
-            }
-        }
-        Next::NotWritten => fail(b"judge", b"standard output", to.error()),
-        _ => say(b"judge", b"trace too long\n"),
+fn report(why: Failure, trace: &Origin, log: &Origin, to: &Sink) {
+    match why {
+        Failure::Trace => fail(b"judge", b"TRACE", trace.error()),
+        Failure::Log => fail(b"judge", b"LOG", log.error()),
+        Failure::Output => fail(b"judge", b"standard output", to.error()),
+        Failure::TooLong => say(b"judge", b"trace too long\n"),
     }
 }
 
@@ -105,6 +93,13 @@ Either file may be -, standard input.
         return;
     }
     let output = Sink::output(&rt);
-    let t = turns::judge(&rt, trace, log, &output);
-    report(t, trace, log, &output);
+    let mut run = Run::start();
+    match turns::judge(&rt, trace, log, &output, &mut run) {
+        Ok(stop) => {
+            if !tell_end(&output, &run, stop) {
+                fail(b"judge", b"standard output", output.error());
+            }
+        }
+        Err(why) => report(why, trace, log, &output),
+    }
 }

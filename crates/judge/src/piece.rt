@@ -11,44 +11,40 @@ pub struct Piece {
     pub ended: bool,
 }
 
-// Nothing yet.
-pub fn nothing() -> Piece {
-    Piece {
-        from: 0,
-        to: 0,
-        ended: false,
+impl Piece {
+    // Nothing yet.
+    pub fn nothing() -> Piece {
+        Piece {
+            from: 0,
+            to: 0,
+            ended: false,
+        }
     }
-}
 
-// So many bytes further, within the piece.
-pub fn further(p: Piece, n: usize) -> Piece {
-    let from = p.from.min(p.to);
-    if n < p.to - from {
-        return Piece {
-            from: from + n,
-            to: p.to,
-            ended: p.ended,
-        };
+    // So many bytes further, within the piece.
+    pub fn further(self, n: usize) -> Piece {
+        let from = self.from.min(self.to);
+        if n < self.to - from {
+            Piece {
+                from: from + n,
+                ..self
+            }
+        } else {
+            Piece {
+                from: self.to,
+                ..self
+            }
+        }
     }
-    Piece {
-        from: p.to,
-        to: p.to,
-        ended: p.ended,
-    }
-}
 
-// A piece with what comes of its input.
-pub fn read_on<R: System>(
-    rt: &R,
-    from: &Origin,
-    buf: &mut [u8],
-    p: Piece,
-) -> std::io::Result<Piece> {
-    let have = carry(buf, p.from, p.to);
-    let f = fill(rt, from, buf, have, p.ended)?;
-    Ok(Piece {
-        from: 0,
-        to: f.total,
-        ended: f.ended,
-    })
+    // With what comes of its input; none where that can't be read.
+    pub fn read_on<R: System>(self, rt: &R, from: &Origin, buf: &mut [u8]) -> Option<Piece> {
+        let have = carry(buf, self.from, self.to);
+        let f = fill(rt, from, buf, have, self.ended).ok()?;
+        Some(Piece {
+            from: 0,
+            to: f.total,
+            ended: f.ended,
+        })
+    }
 }

@@ -2,12 +2,12 @@
 ghost use Rattle.std.specs.Prelude.{◌≡◌};
 ghost use Rattle.judge.specs.Run.{after_stop};
 
-use crate::piece::{Piece, further, nothing};
+use crate::piece::Piece;
 use crate::show::show_wrong;
 use files::pieces::counted;
 use files::system::Sink;
 use qsm::state::Module;
-use tool_judge::{Verdict, Walked};
+use tool_judge::Walked;
 
 // Where a run stands: the module, the records answered and the bytes of the trace that they had, the two pieces, and whether a wrong answer
 // was found.
@@ -21,22 +21,21 @@ pub struct Run {
     pub wrong: bool,
 }
 
-// What comes next: another turn, before which more of the trace or of the log is read; or the end, with the refusal that stopped the trace
-// or 0.
+// What comes next: more of the trace or of the log is read; or the end, with the refusal that stopped the trace or 0.
 #[derive(Clone, Copy)]
 pub enum Next {
-    More,
     Trace,
     Log,
     Done(u8),
-    NotRead(bool),
-    NotWritten,
 }
 
+// What could not be read or written, or does not end.
 #[derive(Clone, Copy)]
-pub struct Turned {
-    pub run: Run,
-    pub next: Next,
+pub enum Failure {
+    Trace,
+    Log,
+    Output,
+    TooLong,
 }
 
 // Ruled out: a record cut by the end of a piece that is refused; a log that ends with its piece.
@@ -58,94 +57,41 @@ pub fn after_stop(stop: u8, ended: bool) -> Next
     Next::Done(stop)
 }
 
-pub fn start() -> Run {
-    Run {
-        state: Module::reset(),
-        records: 0,
-        place: 0,
-        trace: nothing(),
-        log: nothing(),
-        wrong: false,
+impl Run {
+    pub fn start() -> Run {
+        Run {
+            state: Module::reset(),
+            records: 0,
+            place: 0,
+            trace: Piece::nothing(),
+            log: Piece::nothing(),
+            wrong: false,
+        }
     }
-}
 
-// The run after a part of both.
-fn after(run: Run, w: Walked) -> Run {
-    let state = w.state;
-    let trace = run.trace;
-    let log = run.log;
-    Run {
-        state,
-        records: counted(run.records, w.records),
-        place: counted(run.place, w.read),
-        trace: further(trace, w.read),
-        log: further(log, w.passed),
-        wrong: run.wrong,
+    // Past a part of both.
+    fn pass(&mut self, w: Walked) {
+        self.state = w.state;
+        self.records = counted(self.records, w.records);
+        self.place = counted(self.place, w.read);
+        self.trace = self.trace.further(w.read);
+        self.log = self.log.further(w.passed);
     }
-}
 
-// Plays what is there of the trace beside what is there of the log; after a wrong answer the log has no more to say.
-pub fn advance<'a>(to: &Sink, run: Run, t: &'a [u8], l: &'a [u8]) -> Turned {
-    let m = run.state;
-    let w = tool_judge::walk(m, t, l, run.log.ended | run.wrong);
-    let v = w.verdict;
-    let next = after_stop(w.stop, run.trace.ended);
-    let past = after(run, w);
-    if run.wrong {
-        return Turned { run: past, next };
-    }
-    let Verdict::Wrong(k, f) = v else {
-        return Turned { run: past, next };
-    };
-    if show_wrong(to, m, t, l, counted(run.records, k), k, f) {
-        return Turned {
-            run: found(past),
-            next,
-        };
-    }
-    Turned {
-        run,
-        next: Next::NotWritten,
-    }
-}
-
-pub fn with_trace(run: Run, p: Piece) -> Run {
-    let state = run.state;
-    let log = run.log;
-    Run {
-        state,
-        records: run.records,
-        place: run.place,
-        trace: p,
-        log,
-        wrong: run.wrong,
-    }
-}
-
-// A run that has found a wrong answer.
-pub fn found(run: Run) -> Run {
-    let state = run.state;
-    let trace = run.trace;
-    let log = run.log;
-    Run {
-        state,
-        records: run.records,
-        place: run.place,
-        trace,
-        log,
-        wrong: true,
-    }
-}
-
-pub fn with_log(run: Run, p: Piece) -> Run {
-    let state = run.state;
-    let trace = run.trace;
-    Run {
-        state,
-        records: run.records,
-        place: run.place,
-        trace,
-        log: p,
-        wrong: run.wrong,
+    // Plays what is there of the trace beside what is there of the log; after a wrong answer the log has no more to say.
+    pub fn advance<'a>(&mut self, to: &Sink, t: &'a [u8], l: &'a [u8]) -> Result<Next, Failure> {
+        let w = tool_judge::walk(self.state, t, l, self.log.ended | self.wrong);
+        let next = after_stop(w.stop, self.trace.ended);
+        if !self.wrong {
+            if let Err(wrong) = w.verdict {
+                let number = counted(self.records, wrong.answer);
+                if !show_wrong(to, self.state, t, l, number, wrong) {
+                    return Err(Failure::Output);
+                }
+                self.wrong = true;
+            }
+        }
+        self.pass(w);
+        Ok(next)
     }
 }

@@ -6,6 +6,7 @@ use qsm::state::Module;
 use text::line::Line;
 use text::log::logged_at;
 use text::record::record_line;
+use tool_judge::Wrong;
 use trace::{ANSWER_LENGTH, Parsed};
 
 // Whether it could be written.
@@ -28,10 +29,8 @@ fn wrong_line(n: u64, f: Field) -> Line {
 fn hex(line: Line, bytes: &[u8]) -> Line {
     let n = ANSWER_LENGTH.min(bytes.len());
     let mut l = line;
-    let mut i = 0;
-    while i < n {
-        l = l.put(32).hex_byte(bytes[i]);
-        i += 1;
+    for b in &bytes[..n] {
+        l = l.put(32).hex_byte(*b);
     }
     l
 }
@@ -88,23 +87,20 @@ fn bytes_of(k: usize, all: usize) -> usize {
     }
 }
 
-// Answer n, which is answer k of these pieces, played from m on: beside the k answers before it, and then with room for one.
+// Answer n, which is the wrong one of these pieces, played from m on: beside the answers before it, and then with room for one.
 pub fn show_wrong<'a>(
     to: &Sink,
     m: Module,
     t: &'a [u8],
     l: &'a [u8],
     n: u64,
-    k: usize,
-    f: Field,
+    wrong: Wrong,
 ) -> bool {
-    let at = bytes_of(k, l.len()).min(l.len());
+    let at = bytes_of(wrong.answer, l.len()).min(l.len());
     let w = tool_judge::walk(m, t, &l[0..at], false);
     let from = w.read.min(t.len());
-    let before = w.state;
     let room = [0u8; ANSWER_LENGTH];
-    let r = tool_judge::run(before, &t[from..], &room, false);
-    let ours = r.ours;
+    let r = tool_judge::run(w.state, &t[from..], &room, false);
     let written = bytes_of(r.walked.records, ANSWER_LENGTH);
-    show(to, n, f, &t[from..], &ours, written, &l[at..])
+    show(to, n, wrong.field, &t[from..], &r.ours, written, &l[at..])
 }

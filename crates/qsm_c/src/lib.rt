@@ -132,13 +132,11 @@ pub extern "C" fn qsm_play(m: Module, trace: &[u8], log: &mut [u8]) -> Played
     ensures { Plays (play m trace.now (length log.old)) log.old result log.new }
 {
     let p = trace::play(m, trace, log);
-    let state = p.state;
-    let stop = p.stop;
     Played {
-        state,
+        state: p.state,
         read: p.read,
         written: p.written,
-        stop: trace::stop_number(stop),
+        stop: trace::stop_number(p.stop),
     }
 }
 

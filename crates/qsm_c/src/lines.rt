@@ -33,54 +33,41 @@ const NOTHING: u8 = 5;
 fn in_numbers(state: Lines, o: Outcome) -> LinesTold
     ensures { result ≡ in_numbers state o }
 {
+    let nothing = LinesTold {
+        state,
+        number: 0,
+        kind: NOTHING,
+        length: 0,
+        cause: 0,
+        refusal: 0,
+    };
     match o {
-        Outcome::Nothing => LinesTold {
-            state,
-            number: 0,
-            kind: NOTHING,
-            length: 0,
-            cause: 0,
-            refusal: 0,
-        },
+        Outcome::Nothing => nothing,
         Outcome::Handed(number, length) => LinesTold {
-            state,
             number,
             kind: LINE,
             length,
-            cause: 0,
-            refusal: 0,
+            ..nothing
         },
         Outcome::Dropped(number, cause) => LinesTold {
-            state,
             number,
             kind: DROP,
-            length: 0,
             cause,
-            refusal: 0,
+            ..nothing
         },
         Outcome::Stopped(refusal) => LinesTold {
-            state,
-            number: 0,
             kind: STOP,
-            length: 0,
-            cause: 0,
             refusal,
+            ..nothing
         },
         Outcome::Ended => LinesTold {
-            state,
-            number: 0,
             kind: END,
-            length: 0,
-            cause: 0,
-            refusal: 0,
+            ..nothing
         },
         Outcome::Refused(refusal) => LinesTold {
-            state,
-            number: 0,
             kind: REFUSED,
-            length: 0,
-            cause: 0,
             refusal,
+            ..nothing
         },
     }
 }
@@ -106,7 +93,5 @@ pub extern "C" fn qsm_lines_next(
     ensures { Tells (called period trace.now (length line.old) state) line.old result line.new }
 {
     let t = tool_lines::go_on(state, trace, period, line);
-    let after = t.state;
-    let o = t.outcome;
-    in_numbers(after, o)
+    in_numbers(t.state, t.outcome)
 }

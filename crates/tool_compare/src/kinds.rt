@@ -46,13 +46,11 @@ pub fn first_other(kind: u8, log: &[u8]) -> usize
     let is_known = known_kind(kind);
     let bytes = stride_of(kind);
     let mut at: usize = 0;
-    let mut i: usize = 0;
-    while i < n {
+    for i in 0..n {
         if !(is_known & (log[at] == kind)) {
             return i;
         }
         at += bytes;
-        i += 1;
     }
     n
 }

@@ -17,14 +17,7 @@ fn same(x: &[u8], y: &[u8]) -> bool
     requires { length x.now ≡ length y.now }
     ensures { result ≡ same x.now y.now }
 {
-    let mut i = 0;
-    while i < x.len() {
-        if x[i] != y[i] {
-            return false;
-        }
-        i += 1;
-    }
-    true
+    x == y
 }
 
 // What a field adds to a sum.
@@ -42,13 +35,11 @@ fn sum(n: usize, x: &[u8], y: &[u8]) -> u64
     let mut sum: u64 = 0;
     let mut weight: u64 = 1;
     let mut start: usize = 0;
-    let mut f: usize = 0;
-    while f < n {
+    for f in 0..n {
         let end = start + SIZES[f];
         sum += weighed(same(&x[start..end], &y[start..end]), weight);
         weight *= 2;
         start = end;
-        f += 1;
     }
     sum
 }
@@ -60,14 +51,12 @@ fn differences(bytes: usize, a: &[u8], b: &[u8], n: usize) -> usize
 {
     let mut count: usize = 0;
     let mut at: usize = 0;
-    let mut i: usize = 0;
-    while i < n {
+    for i in 0..n {
         let end = at + bytes;
         if !same(&a[at..end], &b[at..end]) {
             count += 1;
         }
         at = end;
-        i += 1;
     }
     count
 }
@@ -80,8 +69,7 @@ fn write(k: usize, bytes: usize, a: &[u8], b: &[u8], n: usize, list: &mut [u64])
 {
     let mut put: usize = 0;
     let mut at: usize = 0;
-    let mut i: usize = 0;
-    while i < n {
+    for i in 0..n {
         let end = at + bytes;
         if !same(&a[at..end], &b[at..end]) {
             let s = sum(k, &a[at..end], &b[at..end]);
@@ -90,7 +78,6 @@ fn write(k: usize, bytes: usize, a: &[u8], b: &[u8], n: usize, list: &mut [u64])
             put += 2;
         }
         at = end;
-        i += 1;
     }
 }
 

@@ -11,13 +11,16 @@ use lib.Seq.{drop-drop}
 use borrow.Author.Tests.{ne_eqb, ltb-true}
 use Rattle.tool_editions.specs.Records.{size_of, parsed, first}
 use Rattle.tool_editions.specs.Rules.{latest, last_after, last_from, unmodelled, ranked, judge, refusal_of}
-use Rattle.tool_editions.specs.Contents.{Reading, holds, refuses, turn, read_for, read_all, held, broken_by}
+use Rattle.tool_editions.specs.Refusals.{broken_by}
+use Rattle.tool_editions.specs.Contents.{Reading, holds, refuses, turn, read_for, read_all, held}
 use Rattle.tool_editions.specs.declared.contents.Held.{Held}
-use Rattle.tool_editions.specs.declared.contents.Held.TheVariants.{Holds, Refused}
 use Rattle.tool_editions.specs.declared.records.Record.{Record}
 use Rattle.tool_editions.specs.declared.records.Record.TheVariants.{Added, Withdrawn}
-use Rattle.tool_editions.specs.declared.records.Parsed.{Parsed}
-use Rattle.tool_editions.specs.declared.records.Parsed.TheVariants.{Whole, Unknown, Cut}
+use Rattle.tool_editions.specs.declared.records.Unreadable.{Unreadable}
+use Rattle.tool_editions.specs.declared.records.Unreadable.TheVariants.{Unknown, Cut}
+use Rattle.tool_editions.specs.declared.refusals.Refusal.{Refusal}
+use Rattle.tool_editions.specs.declared.refusals.Refusal.TheVariants.{BadRecord}
+use Rattle.std.specs.Prelude.{Result, Ok, Err}
 use Rattle.tool_editions.proofs.Shapes.{size_positive}
 use Rattle.tool_editions.proofs.Walking.{one_less, here, fits, next}
 
@@ -74,7 +77,7 @@ starts v =
     }
 
 module _ (v : List ℕ) {last count at : ℕ} (g : Going v last count at) where
-  pub at_end_holds : length v ≤ at → Holds last count ≡ held (read_all v)
+  pub at_end_holds : length v ≤ at → ◌≡◌ {A = Result Held Refusal} (Ok (record { last = last; count = count })) (held (read_all v))
   at_end_holds h =
       rw (g.going, drop_of_length-le v {i = at} h, read_none g.fuel g.before, g.last_is, g.count_is)
 
@@ -83,7 +86,7 @@ module _ (v : List ℕ) {last count at : ℕ} (g : Going v last count at) where
   unfolding first
   so_far = let all : count ≡ count + 0 = omega arith in ap (λ (k : ℕ). first k v) all ∙ g.passed 0 ∙ append-nil g.before
 
-  module _ (lt : at < length v) {p : Parsed} (p-is : p ≡ parsed (take (length v - at) (drop at v))) where
+  module _ (lt : at < length v) {p : Result Record Unreadable} (p-is : p ≡ parsed (take (length v - at) (drop at v))) where
     unroll : (k : ℕ) → length v ≤ at + k → read_for k g.before (drop at v) ≡ turn (read_for (k - 1)) g.before (drop at v) p
     unfolding read_for
     unroll zero h = absurd (omega arith)
@@ -91,26 +94,25 @@ module _ (v : List ℕ) {last count at : ℕ} (g : Going v last count at) where
         let some : length (drop at v) ≡ 0 → ⊥ = λ z. omega (arith, length-drop at v, z) in
         rw (ne_eqb (length (drop at v)) 0 some, here v at p-is, one_less k)
 
-    broken : (on : List Record → List ℕ → Reading) (rs : List Record) (t : List ℕ) (q : Parsed) → ((r : Record) → q ≡ Whole r → ⊥)
-        → turn on rs t q ≡ refuses (broken_by q)
-    broken on rs t (Whole r) h = absurd (h r refl)
-    broken on rs t Unknown h = refl
-    broken on rs t Cut h = refl
+    broken : (on : List Record → List ℕ → Reading) (rs : List Record) (t : List ℕ) (u : Unreadable) → turn on rs t (Err u) ≡ refuses (broken_by u)
+    broken on rs t Unknown = refl
+    broken on rs t Cut = refl
 
-    pub at_broken : ((r : Record) → p ≡ Whole r → ⊥) → {h : Held} → h ≡ Refused (broken_by p) → h ≡ held (read_all v)
-    at_broken keys h-is =
-        h-is ∙ sym (ap held (g.going ∙ unroll g.fuel g.enough ∙ broken (read_for (g.fuel - 1)) g.before (drop at v) p keys))
+    pub at_broken : {u : Unreadable} → p ≡ Err u → ◌≡◌ {A = Result Held Refusal} (Err (broken_by u)) (held (read_all v))
+    at_broken {u} is =
+        let t : turn (read_for (g.fuel - 1)) g.before (drop at v) p ≡ refuses (broken_by u) = rw is (broken (read_for (g.fuel - 1)) g.before (drop at v) u) in
+        sym (ap held (g.going ∙ unroll g.fuel g.enough ∙ t))
 
-    module _ {r : Record} (whole : p ≡ Whole r) {x : ℕ} (x-is : x ≡ judge last count (first count v) true r) where
+    module _ {r : Record} (whole : p ≡ Ok r) {x : ℕ} (x-is : x ≡ judge last count (first count v) true r) where
       judged : refusal_of g.before true r ≡ x
       judged = sym (x-is ∙ rw (so_far, g.last_is, g.count_is))
 
-      turned : read_all v ≡ cond (eqb x 0) (read_for (g.fuel - 1) (g.before ++ (r ∷ [])) (drop (size_of r) (drop at v))) (refuses 5)
+      turned : read_all v ≡ cond (eqb x 0) (read_for (g.fuel - 1) (g.before ++ (r ∷ [])) (drop (size_of r) (drop at v))) (refuses BadRecord)
       turned = g.going ∙ unroll g.fuel g.enough ∙ rw (whole, judged)
 
-      pub at_refused : (x ≡ 0 → ⊥) → Refused 5 ≡ held (read_all v)
+      pub at_refused : (x ≡ 0 → ⊥) → ◌≡◌ {A = Result Held Refusal} (Err BadRecord) (held (read_all v))
       at_refused ne =
-          let is : read_all v ≡ refuses 5 = turned ∙ rw (ne_eqb x 0 ne) in
+          let is : read_all v ≡ refuses BadRecord = turned ∙ rw (ne_eqb x 0 ne) in
           sym (ap held is)
 
       pub goes_on : x ≡ 0 → {l size : ℕ} → l ≡ last_after last r → size ≡ size_of r → Going v l (count + 1) (at + size)

@@ -8,30 +8,33 @@ use lib.Dec.{eqb, ltb, leb}
 use lib.ListN.{length, take, drop}
 use borrow.Author.Tests.{eqb-true, eqb-false, leb-true}
 use Rattle.tool_editions.specs.Records.{size_of, parsed}
+use Rattle.tool_editions.specs.Refusals.{number}
 use Rattle.tool_editions.specs.Rules.{last_from, refusal_of}
 use Rattle.tool_editions.specs.Contents.{Reading, holds, refuses, turn, read_for, read_all, past_end, contents}
 use Rattle.tool_editions.specs.Editions.{Outcome, refused, put, decided, changed_by, changed}
 use Rattle.tool_editions.specs.Laws.{Kept, answer, RefusalChangesNothing}
 use Rattle.tool_editions.specs.declared.records.Record.{Record}
-use Rattle.tool_editions.specs.declared.records.Parsed.{Parsed}
-use Rattle.tool_editions.specs.declared.records.Parsed.TheVariants.{Whole, Unknown, Cut}
+use Rattle.tool_editions.specs.declared.records.Unreadable.{Unreadable}
+use Rattle.tool_editions.specs.declared.records.Unreadable.TheVariants.{Unknown, Cut}
+use Rattle.tool_editions.specs.declared.refusals.Refusal.TheVariants.{BadRecord}
+use Rattle.std.specs.Prelude.{Result, Ok, Err}
 use Rattle.tool_editions.proofs.Ways.{by_record}
 
 -- ---- a buffer that is refused is refused 5 or 6
 
 abbrev pub Broken : Reading → Type 0
 Broken (holds rs) = Unit {0}
-Broken (refuses why) = (5 ≤ why) × (why ≤ 6)
+Broken (refuses why) = (5 ≤ number why) × (number why ≤ 6)
 
 module _ (k : ℕ) (on : (rs : List Record) (v : List ℕ) → Broken (read_for k rs v)) (rs : List Record) (v : List ℕ) where
-  broken_refusal : (r : Record) (t : Bool) → Broken (cond t (read_for k (rs ++ (r ∷ [])) (drop (size_of r) v)) (refuses 5))
+  broken_refusal : (r : Record) (t : Bool) → Broken (cond t (read_for k (rs ++ (r ∷ [])) (drop (size_of r) v)) (refuses BadRecord))
   broken_refusal r true = on (rs ++ (r ∷ [])) (drop (size_of r) v)
   broken_refusal r false = (omega arith, omega arith)
 
-  broken_parsed : (p : Parsed) → Broken (turn (read_for k) rs v p)
-  broken_parsed (Whole r) = broken_refusal r (eqb (refusal_of rs true r) 0)
-  broken_parsed Unknown = (omega arith, omega arith)
-  broken_parsed Cut = (omega arith, omega arith)
+  broken_parsed : (p : Result Record Unreadable) → Broken (turn (read_for k) rs v p)
+  broken_parsed (Ok r) = broken_refusal r (eqb (refusal_of rs true r) 0)
+  broken_parsed (Err Unknown) = (omega arith, omega arith)
+  broken_parsed (Err Cut) = (omega arith, omega arith)
 
   broken_length : (t : Bool) → Broken (cond t (holds rs) (turn (read_for k) rs v (parsed v)))
   broken_length true = tt

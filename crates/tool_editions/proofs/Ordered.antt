@@ -12,21 +12,24 @@ use Rattle.tool_editions.specs.Records.{size_of, parsed, first}
 use Rattle.tool_editions.specs.Rules.{refusal_of}
 use Rattle.tool_editions.specs.Contents.{holds, refuses, turn, read_for, read_all}
 use Rattle.tool_editions.specs.declared.records.Record.{Record}
-use Rattle.tool_editions.specs.declared.records.Parsed.{Parsed}
-use Rattle.tool_editions.specs.declared.records.Parsed.TheVariants.{Whole, Unknown, Cut}
+use Rattle.tool_editions.specs.declared.records.Unreadable.{Unreadable}
+use Rattle.tool_editions.specs.declared.records.Unreadable.TheVariants.{Unknown, Cut}
+use Rattle.tool_editions.specs.declared.refusals.Refusal.{Refusal}
+use Rattle.tool_editions.specs.declared.refusals.Refusal.TheVariants.{BadRecord}
+use Rattle.std.specs.Prelude.{Result, Ok, Err}
 use Rattle.tool_editions.proofs.Shapes.{shaped, parsed_of, size_within, size_positive, extended}
 use Rattle.tool_editions.proofs.Accepting.{read_none}
 
 -- Behind the records rs, those of v make them ts.
 pub data Reads : List Record → List ℕ → List Record → Type 0 where
   none : {rs : List Record} {v : List ℕ} {ts : List Record} → v ≡ [] → rs ≡ ts → Reads rs v ts
-  more : {rs : List Record} {v : List ℕ} {ts : List Record} (r : Record) → parsed v ≡ Whole r → refusal_of rs true r ≡ 0
+  more : {rs : List Record} {v : List ℕ} {ts : List Record} (r : Record) → parsed v ≡ Ok r → refusal_of rs true r ≡ 0
       → Reads (rs ++ (r ∷ [])) (drop (size_of r) v) ts → Reads rs v ts
 
 holds_same : {rs ts : List Record} → holds rs ≡ holds ts → rs ≡ ts
 holds_same e = cc
 
-never : {why : ℕ} {ts : List Record} → refuses why ≡ holds ts → ⊥
+never : {why : Refusal} {ts : List Record} → refuses why ≡ holds ts → ⊥
 never e = let z : ◌≡◌ {A = ℕ} 0 1 = cc in omega arith
 
 empty : (v : List ℕ) → length v ≡ 0 → v ≡ []
@@ -37,17 +40,17 @@ empty (x ∷ v) h = absurd (omega arith)
 
 module _ (k : ℕ) (on : (rs : List Record) (v : List ℕ) (ts : List Record) → length v ≤ k → read_for k rs v ≡ holds ts → Reads rs v ts)
     (rs : List Record) (v : List ℕ) (ts : List Record) (enough : length v ≤ suc k) where
-  by_refusal : (r : Record) → parsed v ≡ Whole r → (t : Bool) → eqb (refusal_of rs true r) 0 ≡ t
-      → cond t (read_for k (rs ++ (r ∷ [])) (drop (size_of r) v)) (refuses 5) ≡ holds ts → Reads rs v ts
+  by_refusal : (r : Record) → parsed v ≡ Ok r → (t : Bool) → eqb (refusal_of rs true r) 0 ≡ t
+      → cond t (read_for k (rs ++ (r ∷ [])) (drop (size_of r) v)) (refuses BadRecord) ≡ holds ts → Reads rs v ts
   by_refusal r is true ok e =
       let shorter : length (drop (size_of r) v) ≤ k = simp length-drop (omega (arith, size_positive r)) in
       more r is (eqb-true _ _ ok) (on (rs ++ (r ∷ [])) (drop (size_of r) v) ts shorter e)
   by_refusal r is false ok e = absurd (never e)
 
-  by_parsed : (p : Parsed) → parsed v ≡ p → turn (read_for k) rs v p ≡ holds ts → Reads rs v ts
-  by_parsed (Whole r) is e = by_refusal r is (eqb (refusal_of rs true r) 0) refl e
-  by_parsed Unknown is e = absurd (never e)
-  by_parsed Cut is e = absurd (never e)
+  by_parsed : (p : Result Record Unreadable) → parsed v ≡ p → turn (read_for k) rs v p ≡ holds ts → Reads rs v ts
+  by_parsed (Ok r) is e = by_refusal r is (eqb (refusal_of rs true r) 0) refl e
+  by_parsed (Err Unknown) is e = absurd (never e)
+  by_parsed (Err Cut) is e = absurd (never e)
 
   by_length : (t : Bool) → eqb (length v) 0 ≡ t → cond t (holds rs) (turn (read_for k) rs v (parsed v)) ≡ holds ts → Reads rs v ts
   by_length true is e = none (empty v (eqb-true _ _ is)) (holds_same e)

@@ -14,7 +14,7 @@ use Rattle.tool_editions.specs.Editions.{put}
 use Rattle.tool_editions.specs.Laws.{Kept, after, Fits}
 use Rattle.tool_editions.specs.declared.records.Record.{Record}
 use Rattle.tool_editions.specs.declared.records.Record.TheVariants.{Added, Withdrawn}
-use Rattle.tool_editions.specs.declared.records.Parsed.TheVariants.{Whole}
+use Rattle.std.specs.Prelude.{Ok}
 use Rattle.tool_editions.proofs.Ordered.{Reads, none, more, reads_of, read_back, reads_on}
 use Rattle.tool_editions.proofs.Calls.{Let}
 
@@ -25,7 +25,7 @@ pub bytes_length : (r : Record) → length (bytes_of r) ≡ size_of r
 bytes_length (Added e) = refl
 bytes_length (Withdrawn n) = refl
 
-pub bytes_parsed : (r : Record) → Fits r → parsed (bytes_of r) ≡ Whole r
+pub bytes_parsed : (r : Record) → Fits r → parsed (bytes_of r) ≡ Ok r
 unfolding parsed
 bytes_parsed (Added e) w =
     rw (word_back e.number w.number, word_back e.sccr0 w.sccr0, word_back e.sccr1 w.sccr1, word_back e.spcr0 w.spcr0, word_back e.spcr1 w.spcr1)

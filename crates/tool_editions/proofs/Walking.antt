@@ -10,8 +10,8 @@ use Rattle.tool_editions.specs.Records.{number_of, size_of, parsed, followed, fi
 use Rattle.tool_editions.specs.Rules.{withdraws, withdrawn, later, latest_from}
 use Rattle.tool_editions.specs.declared.Given.{Given}
 use Rattle.tool_editions.specs.declared.records.Record.{Record}
-use Rattle.tool_editions.specs.declared.records.Parsed.{Parsed}
-use Rattle.tool_editions.specs.declared.records.Parsed.TheVariants.{Whole, Unknown, Cut}
+use Rattle.tool_editions.specs.declared.records.Unreadable.{Unreadable}
+use Rattle.std.specs.Prelude.{Result, Ok, Err}
 use Rattle.tool_editions.proofs.Shapes.{shaped, size_within}
 
 -- What is lent from a place on is the rest.
@@ -21,22 +21,21 @@ rest v at = take_all (length v - at) (drop at v) (simp length-drop (omega arith)
 pub one_less : (k : ℕ) → suc k - 1 ≡ k
 one_less k = omega arith
 
-none_follows : (on : List ℕ → List Record) (t : List ℕ) (p : Parsed) → ((r : Record) → p ≡ Whole r → ⊥) → followed on t p ≡ []
-none_follows on t (Whole r) h = absurd (h r refl)
-none_follows on t Unknown h = refl
-none_follows on t Cut h = refl
+none_follows : (on : List ℕ → List Record) (t : List ℕ) (p : Result Record Unreadable) → ((r : Record) → p ≡ Ok r → ⊥) → followed on t p ≡ []
+none_follows on t (Ok r) h = absurd (h r refl)
+none_follows on t (Err why) h = refl
 
 -- A walk at a place, with so many records left; p was parsed there.
-module _ (v : List ℕ) (at : ℕ) {p : Parsed} (p-is : p ≡ parsed (take (length v - at) (drop at v))) where
+module _ (v : List ℕ) (at : ℕ) {p : Result Record Unreadable} (p-is : p ≡ parsed (take (length v - at) (drop at v))) where
   pub here : parsed (drop at v) ≡ p
   here = ap parsed (sym (rest v at)) ∙ sym p-is
 
-  pub stops : ((r : Record) → p ≡ Whole r → ⊥) → (left : ℕ) → first left (drop at v) ≡ []
+  pub stops : ((r : Record) → p ≡ Ok r → ⊥) → (left : ℕ) → first left (drop at v) ≡ []
   unfolding first
   stops keys zero = refl
   stops keys (suc k) = rw here (none_follows (first k) (drop at v) p keys)
 
-  module _ {r : Record} (whole : p ≡ Whole r) where
+  module _ {r : Record} (whole : p ≡ Ok r) where
     pub fits : at ≤ length v → at + size_of r ≤ length v
     fits h = omega (arith, size_within (drop at v) (shaped (drop at v) (here ∙ whole)), length-drop at v)
 

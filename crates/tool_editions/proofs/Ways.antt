@@ -4,28 +4,25 @@ use mathlib.Core.Bool.{Bool, true, false, not}
 use mathlib.Core.List.{List, [], ◌++◌, append-nil}
 use Prim.Native.Nat.{ℕ, ◌+◌, ◌-◌, ◌<◌, ◌≤◌}
 use native.Mathlib.Omega.{arith}
-use lib.Dec.{eqb, leb}
+use lib.Dec.{eqb, ltb, leb}
 use lib.ListN.{length, take, drop, length-drop, drop_of_length-le}
 use borrow.Rule.Slice.PartMut.{put_mid}
-use borrow.Author.Tests.{lt-ltb, le-ltb, le-leb, lt-leb, ne_eqb, leb-true, leb-false}
+use borrow.Author.Tests.{ltb-true, ltb-false, lt-ltb, le-ltb, le-leb, lt-leb, ne_eqb, leb-true, leb-false}
 use Rattle.tool_editions.specs.Records.{size_of, bytes_of, first}
 use Rattle.tool_editions.specs.Rules.{last_from, latest, unmodelled, judge, refusal_of}
-use Rattle.tool_editions.specs.Contents.{Reading, holds, refuses, read_all, past_end, contents, held, held_refusal}
-use Rattle.tool_editions.specs.Editions.{put, changed, Changes}
+use Rattle.tool_editions.specs.Contents.{Reading, holds, refuses, read_all, past_end, contents, held}
+use Rattle.tool_editions.specs.Editions.{put, changed, answered, Changes}
 use Rattle.tool_editions.specs.declared.contents.Held.{Held}
-use Rattle.tool_editions.specs.declared.contents.Held.TheVariants.{Holds, Refused}
 use Rattle.tool_editions.specs.declared.records.Record.{Record}
+use Rattle.tool_editions.specs.declared.refusals.Refusal.{Refusal}
+use Rattle.std.specs.Prelude.{Ok, Err}
 use Rattle.tool_editions.specs.declared.records.Record.TheVariants.{Added, Withdrawn}
 use Rattle.tool_editions.proofs.Walking.{rest}
 use Rattle.tool_editions.proofs.Accepting.{no_refusal}
 use Rattle.tool_editions.proofs.Ordered.{first_of}
 
-pub past_is : (c : Reading) → held_refusal (held c) ≡ past_end c
-past_is (holds rs) = refl
-past_is (refuses why) = refl
-
-is_refused : (c : Reading) {why : ℕ} → held c ≡ Refused why → c ≡ refuses why
-is_refused (holds rs) e = let z : ◌≡◌ {A = ℕ} 0 1 = cc in absurd (omega arith)
+pub is_refused : (c : Reading) {why : Refusal} → Err why ≡ held c → c ≡ refuses why
+is_refused (holds rs) e = absurd cc
 is_refused (refuses other) {why} e = let same : other ≡ why = cc in ap refuses same
 
 -- Records in order, by their numbers.
@@ -35,49 +32,59 @@ pub record Ordered (c : Reading) (last count : ℕ) : Type 0 where
   pub last_is : last ≡ last_from 0 records
   pub count_is : count ≡ length records
 
-is_held : (c : Reading) {last count : ℕ} → held c ≡ Holds last count → Ordered c last count
-is_held (holds rs) e = record { records = rs; is = refl; last_is = cc; count_is = cc }
-is_held (refuses why) e = let z : ◌≡◌ {A = ℕ} 0 1 = cc in absurd (omega arith)
+is_held : (c : Reading) {h : Held} → Ok h ≡ held c → Ordered c h.last h.count
+is_held (holds rs) {h} e =
+    let same : h ≡ record { last = last_from 0 rs; count = length rs } = cc in
+    record { records = rs; is = refl; last_is = ap (λ (x : Held). x.last) same; count_is = ap (λ (x : Held). x.count) same }
+is_held (refuses why) e = absurd cc
 
 by_numbers : {last count : ℕ} {us rs : List Record} (fits : Bool) (r : Record) → us ≡ rs → last ≡ last_from 0 rs → count ≡ length rs
     → judge last count us fits r ≡ refusal_of us fits r
 by_numbers fits r same last_is count_is = rw (same, last_is, count_is)
+
+past_never : {why : Refusal} {rs : List Record} → refuses why ≡ holds rs → ⊥
+past_never e = cc
 
 module _ (b : List ℕ) (used : ℕ) where
   pub past : length b < used → contents b used ≡ refuses (past_end (read_all b))
   unfolding contents
   past h = rw (lt-ltb (length b) used h)
 
-  module _ (inside : used ≤ length b) {h : Held} (h-is : h ≡ held (read_all (take used b))) where
-    within : contents b used ≡ read_all (take used b)
-    unfolding contents
-    within = rw (le-ltb (length b) used inside)
+  pub within : used ≤ length b → contents b used ≡ read_all (take used b)
+  unfolding contents
+  within inside = rw (le-ltb (length b) used inside)
 
-    pub broken : {why : ℕ} → h ≡ Refused why → contents b used ≡ refuses why
-    broken e = within ∙ is_refused (read_all (take used b)) (sym h-is ∙ e)
+  reaches : (t : Bool) → ltb (length b) used ≡ t → {rs : List Record} → contents b used ≡ holds rs → used ≤ length b
+  reaches true is e = absurd (past_never (sym (past (ltb-true (length b) used is)) ∙ e))
+  reaches false is e = ltb-false (length b) used is
 
-    module _ {last count : ℕ} (e : h ≡ Holds last count) where
-      ordered : Ordered (read_all (take used b)) last count
-      ordered = is_held (read_all (take used b)) (sym h-is ∙ e)
+  module _ {h : Held} (e : Ok h ≡ held (contents b used)) where
+    ordered : Ordered (contents b used) h.last h.count
+    ordered = is_held (contents b used) e
 
-      pub in_buffer : contents b used ≡ holds (first count (take used b))
-      in_buffer =
-          let o = ordered in
-          within ∙ o.is
-          ∙ ap holds (sym (first_of (take used b) o.is) ∙ ap (λ (n : ℕ). first n (take used b)) (sym o.count_is))
+    -- The used length is within the buffer.
+    pub inside : used ≤ length b
+    inside = reaches (ltb (length b) used) refl ordered.is
 
-      -- What the walk over the records and the numbers gives is the rule's.
-      pub judged_is : (fits : Bool) (r : Record) → judge last count (first count (take used b)) fits r ≡ refusal_of (first count (take used b)) fits r
-      judged_is fits r =
-          let o = ordered in
-          by_numbers fits r (ap (λ (n : ℕ). first n (take used b)) o.count_is ∙ first_of (take used b) o.is) o.last_is o.count_is
+    read_is : read_all (take used b) ≡ holds ordered.records
+    read_is = sym (within inside) ∙ ordered.is
+
+    pub in_buffer : contents b used ≡ holds (first h.count (take used b))
+    in_buffer =
+        let o = ordered in
+        o.is ∙ ap holds (sym (first_of (take used b) read_is) ∙ ap (λ (n : ℕ). first n (take used b)) (sym o.count_is))
+
+    -- What the walk over the records and the numbers gives is the rule's.
+    pub judged_is : (fits : Bool) (r : Record) → judge h.last h.count (first h.count (take used b)) fits r ≡ refusal_of (first h.count (take used b)) fits r
+    judged_is fits r =
+        let o = ordered in
+        by_numbers fits r (ap (λ (n : ℕ). first n (take used b)) o.count_is ∙ first_of (take used b) read_is) o.last_is o.count_is
 
 -- What a change answers and leaves, by what the buffer comes to.
 module _ (b : List ℕ) (used : ℕ) (r : Record) where
-  pub refuses_as : {why x : ℕ} → contents b used ≡ refuses why → x ≡ why
-      → Changes (changed b used r) (record { used = used; refusal = x }) b
+  pub refuses_as : {why : Refusal} → Err why ≡ held (contents b used) → Changes (changed b used r) (answered used (Err why)) b
   unfolding changed
-  refuses_as is x-is = rw is (record { used = refl; refusal = x-is; buffer = refl })
+  refuses_as e = rw (is_refused (contents b used) e) (record { used = refl; refusal = refl; buffer = refl })
 
   module _ {rs : List Record} {fits : Bool} {x : ℕ} (is : contents b used ≡ holds rs) (fits-is : fits ≡ leb (used + size_of r) (length b)) (x-is : x ≡ refusal_of rs fits r) where
     pub refuses_it : (x ≡ 0 → ⊥) → Changes (changed b used r) (record { used = used; refusal = x }) b

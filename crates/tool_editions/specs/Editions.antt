@@ -1,13 +1,15 @@
 -- Document 02, L6: an edition added, withdrawn, asked for. The check order is 5, 6, 3, 8, 7.
-use Rattle.std.specs.Prelude.{◌≡◌, Bool, true, false, cond, List, ◌++◌, ℕ, ◌+◌, eqb, leb, length, take, drop}
+use Rattle.std.specs.Prelude.{◌≡◌, Bool, true, false, cond, Result, Ok, Err, List, ◌++◌, ℕ, ◌+◌, eqb, leb, length, take, drop}
 use Rattle.tool_editions.specs.Records.{size_of, bytes_of}
-use Rattle.tool_editions.specs.Rules.{missing, latest, refusal_of}
+use Rattle.tool_editions.specs.Refusals.{number}
+use Rattle.tool_editions.specs.Rules.{given, missing, latest, refusal_of}
 use Rattle.tool_editions.specs.Contents.{Reading, holds, refuses, contents}
 use Rattle.tool_editions.specs.declared.Changed.{Changed}
 use Rattle.tool_editions.specs.declared.Given.{Given}
 use Rattle.tool_editions.specs.declared.records.Edition.{Edition}
 use Rattle.tool_editions.specs.declared.records.Record.{Record}
 use Rattle.tool_editions.specs.declared.records.Record.TheVariants.{Added, Withdrawn}
+use Rattle.tool_editions.specs.declared.refusals.Refusal.{Refusal}
 
 -- What a change leaves: the used length, the buffer, and the refusal or 0.
 pub record Outcome : Type 0 where
@@ -33,7 +35,7 @@ decided b used r why = cond (eqb why 0) (put b used r) (refused b used why)
 
 abbrev pub changed_by : List ℕ → ℕ → Record → Reading → Outcome
 changed_by b used r (holds rs) = decided b used r (refusal_of rs (leb (used + size_of r) (length b)) r)
-changed_by b used r (refuses why) = refused b used why
+changed_by b used r (refuses why) = refused b used (number why)
 
 -- 5 and 6 are of the buffer, then 3, 8 and 7 of the record.
 unfoldable pub changed : List ℕ → ℕ → Record → Outcome
@@ -41,7 +43,7 @@ changed b used r = changed_by b used r (contents b used)
 
 abbrev pub asked_by : Bool → ℕ → Reading → Given
 asked_by any n (holds rs) = latest any n rs
-asked_by any n (refuses why) = missing why
+asked_by any n (refuses why) = missing (number why)
 
 -- The edition of a number, or the newest, not withdrawn.
 unfoldable pub asked : List ℕ → ℕ → Bool → ℕ → Given
@@ -59,6 +61,15 @@ get b used n = asked b used false n
 
 abbrev pub newest : List ℕ → ℕ → Given
 newest b used = asked b used true 0
+
+-- What a call answers: the used length after a record that was put, or the one before; the edition found, or none.
+abbrev pub answered : ℕ → Result ℕ Refusal → Changed
+answered used (Ok after) = record { used = after; refusal = 0 }
+answered used (Err why) = record { used = used; refusal = number why }
+
+abbrev pub told : Result Edition Refusal → Given
+told (Ok e) = given e
+told (Err why) = missing (number why)
 
 -- An outcome in a lent buffer: what a call answers, and what it leaves of the buffer.
 pub record Changes (o : Outcome) (r : Changed) (left : List ℕ) : Type 0 where

@@ -1,4 +1,5 @@
 pub mod Records
+pub mod Refusals
 pub mod Rules
 pub mod Contents
 pub mod Editions

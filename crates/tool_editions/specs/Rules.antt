@@ -1,5 +1,5 @@
 -- Document 02, L6: which editions records leave, and what a record behind them is refused for.
-use Rattle.std.specs.Prelude.{Bool, true, false, cond, not, ◌&&◌, ◌||◌, List, [], ◌∷◌, ℕ, eqb, leb, ltb, length}
+use Rattle.std.specs.Prelude.{Bool, true, false, cond, not, ◌&&◌, ◌||◌, List, [], ◌∷◌, ℕ, Option, Some, None, eqb, leb, ltb, length}
 use Rattle.qsm.specs.model.State.{reset_module}
 use Rattle.qsm.specs.model.Event.{answered, writes}
 use Rattle.tool_editions.specs.Records.{number_of}
@@ -25,6 +25,19 @@ given e = record { edition = e; refusal = 0 }
 abbrev pub missing : ℕ → Given
 missing why =
     record { edition = record { number = 0; sccr0 = 0; sccr1 = 0; spcr0 = 0; spcr1 = 0 }; refusal = why }
+
+-- What was found among records in order, where 8 is for none; and what is asked for: any edition, or the one of a number.
+abbrev pub found_in : Option Edition → Given
+found_in (Some e) = given e
+found_in None = missing 8
+
+abbrev pub any_of : Option ℕ → Bool
+any_of (Some n) = false
+any_of None = true
+
+abbrev pub number_in : Option ℕ → ℕ
+number_in (Some n) = n
+number_in None = 0
 
 -- What a record makes of the edition found so far: one that is added, asked for and not gone takes its place. Any is asked for, or number n.
 abbrev pub later : Given → Bool → ℕ → Record → Bool → Given

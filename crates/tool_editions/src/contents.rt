@@ -1,45 +1,19 @@
 // What the records of a buffer come to: its walks, each over so many records from the start of what is lent.
-ghost use Rattle.std.specs.Prelude.{◌≡◌};
+ghost use Rattle.std.specs.Prelude.{◌≡◌, ◌||◌, eqb, length};
 ghost use Rattle.tool_editions.specs.Records.{first};
-ghost use Rattle.tool_editions.specs.Rules.{missing, given, withdraws, withdrawn, later, latest, judge, last_after};
-ghost use Rattle.tool_editions.specs.Contents.{read_all, held, held_refusal, past_end, broken_by};
-ghost use Rattle.tool_editions.specs.declared.contents.Held.TheVariants.{Refused};
+ghost use Rattle.tool_editions.specs.Refusals.{refusal_in};
+ghost use Rattle.tool_editions.specs.Rules.{withdraws, withdrawn, any_of, number_in, found_in, later, latest, judge, last_after};
+ghost use Rattle.tool_editions.specs.Contents.{read_all, contents, held, past_end};
 
-use crate::records::{Edition, Parsed, Record};
-use crate::{Given, records, rules};
+use crate::records::{Edition, Record, parse};
+use crate::refusals::Refusal;
+use crate::rules;
 
-// Records that are in order, by the last edition added and how many they are; or the refusal of the buffer.
+// Records that are in order: the last edition added, and how many they are.
 #[derive(Clone, Copy)]
-pub enum Held {
-    Holds(u16, usize),
-    Refused(u8),
-}
-
-// No edition, and why.
-// Ruled out: the edition found before; a refusal of 0.
-pub fn missing(why: u8) -> Given
-    ensures { result ≡ missing why }
-{
-    let edition = Edition {
-        number: 0,
-        sccr0: 0,
-        sccr1: 0,
-        spcr0: 0,
-        spcr1: 0,
-    };
-    Given {
-        edition,
-        refusal: why,
-    }
-}
-
-fn given(edition: Edition) -> Given
-    ensures { result ≡ given edition }
-{
-    Given {
-        edition,
-        refusal: 0,
-    }
+pub struct Held {
+    pub last: u16,
+    pub count: usize,
 }
 
 fn withdraws(r: Record, number: u16) -> bool
@@ -56,73 +30,75 @@ fn withdrawn(number: u16, v: &[u8], count: usize) -> bool
     ensures { result ≡ withdrawn number (first count v.now) }
 {
     let mut at: usize = 0;
-    let mut left = count;
-    while left > 0 {
-        let p = records::parse(&v[at..]);
-        let Parsed::Whole(r) = p else {
+    for _ in 0..count {
+        let Ok(r) = parse(&v[at..]) else {
             return false;
         };
         if withdraws(r, number) {
             return true;
         }
-        at += records::size(r);
-        left -= 1;
+        at += r.size();
     }
     false
 }
 
-// What a record makes of the edition found so far; `gone` says that a later record withdraws this one's edition.
-fn later(g: Given, any: bool, number: u16, r: Record, gone: bool) -> Given
-    ensures { result ≡ later g any number r gone }
+// Whether an edition's number is the one asked for, or any is.
+fn is_wanted(wanted: Option<u16>, number: u16) -> bool
+    ensures { result ≡ (any_of wanted || eqb number (number_in wanted)) }
 {
-    match r {
-        Record::Added(e) => {
-            if gone {
-                return g;
-            }
-            if any | (e.number == number) {
-                return given(e);
-            }
-            g
-        }
-        Record::Withdrawn(_) => g,
+    match wanted {
+        Some(n) => number == n,
+        None => true,
+    }
+}
+
+// What a record makes of the edition found so far; `gone` says that a later record withdraws this one's edition.
+fn later(found: Option<Edition>, wanted: Option<u16>, r: Record, gone: bool) -> Option<Edition>
+    ensures { found_in result ≡ later (found_in found) (any_of wanted) (number_in wanted) r gone }
+{
+    let Record::Added(e) = r else {
+        return found;
+    };
+    if gone {
+        return found;
+    }
+    if is_wanted(wanted, e.number) {
+        Some(e)
+    } else {
+        found
     }
 }
 
 // The latest edition of so many records that is not withdrawn: any, or the one of a number.
 // Ruled out: an edition that a later record withdraws; the first instead of the last.
-pub fn latest(any: bool, number: u16, v: &[u8], count: usize) -> Given
-    ensures { result ≡ latest any number (first count v.now) }
+pub fn latest(wanted: Option<u16>, v: &[u8], count: usize) -> Option<Edition>
+    ensures { found_in result ≡ latest (any_of wanted) (number_in wanted) (first count v.now) }
 {
-    let mut found = missing(8);
+    let mut found = None;
     let mut at: usize = 0;
-    let mut left = count;
-    while left > 0 {
-        let p = records::parse(&v[at..]);
-        let Parsed::Whole(r) = p else {
+    for left in (0..count).rev() {
+        let Ok(r) = parse(&v[at..]) else {
             return found;
         };
-        let next = at + records::size(r);
-        left -= 1;
-        let gone = withdrawn(records::number(r), &v[next..], left);
-        let g = later(found, any, number, r, gone);
-        found = g;
+        let next = at + r.size();
+        let gone = withdrawn(r.number(), &v[next..], left);
+        found = later(found, wanted, r, gone);
         at = next;
     }
     found
 }
 
-// The refusal of a record behind so many, of which `last` was added last; `fits` says that there is room for it.
+// Whether a record may stand behind others; `fits` says that there is room for it.
 // Ruled out: 8 before 3; a withdrawal tested for 3; 64 records counted as too many.
-pub fn judged(v: &[u8], last: u16, count: usize, fits: bool, r: Record) -> u8
-    ensures { result ≡ judge last count (first count v.now) fits r }
+pub fn judged(v: &[u8], before: Held, fits: bool, r: Record) -> Result<(), Refusal>
+    ensures { refusal_in result ≡ judge before.last before.count (first before.count v.now) fits r }
 {
-    let room = fits & (count < 64);
+    let room = fits & (before.count < 64);
     match r {
-        Record::Added(e) => rules::ranked(rules::unmodelled(e), e.number <= last, room),
+        Record::Added(e) => rules::ranked(rules::unmodelled(e), e.number <= before.last, room),
         Record::Withdrawn(n) => {
-            let g = latest(false, n, v, count);
-            rules::ranked(false, g.refusal != 0, room)
+            let e = latest(Some(n), v, before.count);
+            rules::ranked(false, e.is_none(), room)
         }
     }
 }
@@ -136,55 +112,44 @@ fn last_after(last: u16, r: Record) -> u16
     }
 }
 
-// The refusal of what is no whole record.
-fn broken(p: Parsed) -> Held
-    ensures { result ≡ Refused (broken_by p) }
-{
-    match p {
-        Parsed::Whole(_) => Held::Refused(5),
-        Parsed::Unknown => Held::Refused(5),
-        Parsed::Cut => Held::Refused(6),
-    }
-}
-
 // All the records of v, looked at in order.
 // Ruled out: a record that the rules refuse taken; a cut record before a refused one.
-pub fn read(v: &[u8]) -> Held
+fn read(v: &[u8]) -> Result<Held, Refusal>
     ensures { result ≡ held (read_all v.now) }
 {
     let mut last: u16 = 0;
     let mut count: usize = 0;
     let mut at: usize = 0;
     while at < v.len() {
-        let p = records::parse(&v[at..]);
-        let Parsed::Whole(r) = p else {
-            return broken(p);
-        };
-        if judged(v, last, count, true, r) != 0 {
-            return Held::Refused(5);
+        let r = parse(&v[at..])?;
+        if judged(v, Held { last, count }, true, r).is_err() {
+            return Err(Refusal::BadRecord);
         }
         last = last_after(last, r);
         count += 1;
-        at += records::size(r);
+        at += r.size();
     }
-    Held::Holds(last, count)
-}
-
-// The refusal that records come to; 6 for records that are in order, where a used length passes their end.
-// Ruled out: 6 for records that are refused 5; 0 for records in order.
-pub fn refusal(h: Held) -> u8
-    ensures { result ≡ held_refusal h }
-{
-    match h {
-        Held::Holds(_, _) => 6,
-        Held::Refused(why) => why,
-    }
+    Ok(Held { last, count })
 }
 
 // The refusal of a buffer whose used length passes its end.
 // Ruled out: 6 for an unknown kind before the end; 0 for records in order.
-pub fn past_end(buf: &[u8]) -> u8
+fn past_end(buf: &[u8]) -> Refusal
     ensures { result ≡ past_end (read_all buf.now) }
 {
-    refusal(read(buf))
+    match read(buf) {
+        Ok(_) => Refusal::CutRecord,
+        Err(why) => why,
+    }
+}
+
+// The records in the used length of a buffer.
+// Ruled out: records behind the used length; a used length past the end cut off.
+pub fn read_used(buf: &[u8], used: usize) -> Result<Held, Refusal>
+    ensures { result ≡ held (contents buf.now used) }
+{
+    if used > buf.len() {
+        return Err(past_end(buf));
+    }
+    read(&buf[..used])
 }

@@ -3,16 +3,18 @@
 
 ghost use Rattle.std.specs.Prelude.{◌≡◌, ◌++◌, ◌≤◌, length, drop};
 ghost use Rattle.tool_editions.specs.Records.{size_of, bytes_of};
-ghost use Rattle.tool_editions.specs.Editions.{changed, asked, add, withdraw, get, newest, Changes};
-ghost use Rattle.tool_editions.specs.declared.records.Record.TheVariants.{Added, Withdrawn};
+ghost use Rattle.tool_editions.specs.Rules.{any_of, number_in};
+ghost use Rattle.tool_editions.specs.Editions.{changed, asked, add, withdraw, get, newest, told, answered, Changes};
 
 mod claims;
 mod contents;
 pub mod records;
+mod refusals;
 mod rules;
 
-use contents::{Held, judged, latest, missing, past_end, read};
-use records::{Edition, Record};
+use contents::{judged, latest, read_used};
+use records::{ADDED_SIZE, Edition, Record, WITHDRAWN_SIZE, withdrawal};
+use refusals::Refusal;
 
 // The used length after a change, and the refusal's number or 0.
 #[repr(C)]
@@ -30,30 +32,27 @@ pub struct Given {
     pub refusal: u8,
 }
 
-fn put_added(left: &mut [u8], e: Edition)
-    requires { 11 ≤ length left.old }
-    ensures { left.new ≡ bytes_of (Added e) ++ drop 11 left.old }
-{
-    left[0] = records::ADDED;
-    left[1] = (e.number / 256 % 256) as u8;
-    left[2] = (e.number % 256) as u8;
-    left[3] = (e.sccr0 / 256 % 256) as u8;
-    left[4] = (e.sccr0 % 256) as u8;
-    left[5] = (e.sccr1 / 256 % 256) as u8;
-    left[6] = (e.sccr1 % 256) as u8;
-    left[7] = (e.spcr0 / 256 % 256) as u8;
-    left[8] = (e.spcr0 % 256) as u8;
-    left[9] = (e.spcr1 / 256 % 256) as u8;
-    left[10] = (e.spcr1 % 256) as u8;
-}
+impl From<Result<Edition, Refusal>> for Given {
+    ghost from_gives = { λ r g. g ≡ told r };
 
-fn put_withdrawn(left: &mut [u8], n: u16)
-    requires { 3 ≤ length left.old }
-    ensures { left.new ≡ bytes_of (Withdrawn n) ++ drop 3 left.old }
-{
-    left[0] = records::WITHDRAWN;
-    left[1] = (n / 256 % 256) as u8;
-    left[2] = (n % 256) as u8;
+    fn from(r: Result<Edition, Refusal>) -> Given {
+        match r {
+            Ok(edition) => Given {
+                edition,
+                refusal: 0,
+            },
+            Err(why) => Given {
+                edition: Edition {
+                    number: 0,
+                    sccr0: 0,
+                    sccr1: 0,
+                    spcr0: 0,
+                    spcr1: 0,
+                },
+                refusal: u8::from(why),
+            },
+        }
+    }
 }
 
 // A record at the start of what is left of the buffer.
@@ -62,53 +61,47 @@ fn put(left: &mut [u8], r: Record)
     ensures { left.new ≡ bytes_of r ++ drop (size_of r) left.old }
 {
     match r {
-        Record::Added(e) => put_added(left, e),
-        Record::Withdrawn(n) => put_withdrawn(left, n),
+        Record::Added(e) => left[..ADDED_SIZE].copy_from_slice(&e.added()),
+        Record::Withdrawn(n) => left[..WITHDRAWN_SIZE].copy_from_slice(&withdrawal(n)),
     }
 }
 
-// A record behind those that the buffer has, by what they come to.
+// A record behind those that the buffer has, by what they come to: the used length after it.
+fn append(buf: &mut [u8], used: usize, r: Record) -> Result<usize, Refusal>
+    ensures { Changes (changed buf.old used r) (answered used result) buf.new }
+{
+    let before = read_used(buf, used)?;
+    let size = r.size();
+    let fits = size <= buf.len() - used;
+    judged(&buf[..used], before, fits, r)?;
+    put(&mut buf[used..], r);
+    Ok(used + size)
+}
+
 fn change(buf: &mut [u8], used: usize, r: Record) -> Changed
     ensures { Changes (changed buf.old used r) result buf.new }
 {
-    if used > buf.len() {
-        return Changed {
+    match append(buf, used, r) {
+        Ok(after) => Changed {
+            used: after,
+            refusal: 0,
+        },
+        Err(why) => Changed {
             used,
-            refusal: past_end(buf),
-        };
-    }
-    let h = read(&buf[..used]);
-    let Held::Holds(last, count) = h else {
-        return Changed {
-            used,
-            refusal: contents::refusal(h),
-        };
-    };
-    let size = records::size(r);
-    let fits = size <= buf.len() - used;
-    let why = judged(&buf[..used], last, count, fits, r);
-    if why != 0 {
-        return Changed { used, refusal: why };
-    }
-    put(&mut buf[used..], r);
-    Changed {
-        used: used + size,
-        refusal: 0,
+            refusal: u8::from(why),
+        },
     }
 }
 
 // The newest edition that is not withdrawn, or the one of a number.
-fn ask(buf: &[u8], used: usize, any: bool, number: u16) -> Given
-    ensures { result ≡ asked buf.now used any number }
+fn ask(buf: &[u8], used: usize, wanted: Option<u16>) -> Result<Edition, Refusal>
+    ensures { told result ≡ asked buf.now used (any_of wanted) (number_in wanted) }
 {
-    if used > buf.len() {
-        return missing(past_end(buf));
+    let before = read_used(buf, used)?;
+    match latest(wanted, &buf[..used], before.count) {
+        Some(e) => Ok(e),
+        None => Err(Refusal::BadNumber),
     }
-    let h = read(&buf[..used]);
-    let Held::Holds(_, count) = h else {
-        return missing(contents::refusal(h));
-    };
-    latest(any, number, &buf[..used], count)
 }
 
 // Adds an edition: its record goes behind those that the buffer has.
@@ -132,7 +125,7 @@ pub fn withdraw(buf: &mut [u8], used: usize, number: u16) -> Changed
 pub fn get(buf: &[u8], used: usize, number: u16) -> Given
     ensures { result ≡ get buf.now used number }
 {
-    ask(buf, used, false, number)
+    Given::from(ask(buf, used, Some(number)))
 }
 
 // The newest edition that is not withdrawn.
@@ -140,5 +133,5 @@ pub fn get(buf: &[u8], used: usize, number: u16) -> Given
 pub fn newest(buf: &[u8], used: usize) -> Given
     ensures { result ≡ newest buf.now used }
 {
-    ask(buf, used, true, 0)
+    Given::from(ask(buf, used, None))
 }

@@ -64,6 +64,7 @@ fn from(p: Position, long: u64) -> Position
 }
 
 // Ruled out: the mark's place for a record behind it; the record after it; a record that is cut found.
+#[tactic(auto, using(crate::proofs::Walking::lent), unfolding(crate::specs::Find::looked_up))]
 pub fn find<'a>(trace: &'a [u8], lent: &'a [u64], count: usize, number: u64) -> Found
     ensures { result ≡ looked_up trace.now lent.now count number }
 {

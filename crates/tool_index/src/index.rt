@@ -47,12 +47,7 @@ fn marks_for(n: u64) -> u64
 fn fresh(all: u64, count: usize) -> usize
     ensures { result ≡ all - count }
 {
-    let there = count as u64;
-    if there < all {
-        (all - there) as usize
-    } else {
-        0
-    }
+    all.saturating_sub(count as u64) as usize
 }
 
 // The marks from number `count` on, `fresh` of them, in a walk from a position.
@@ -63,8 +58,7 @@ fn write(from: Position, rest: &[u8], lent: &mut [u64], count: usize, fresh: usi
 {
     let mut at = from;
     let mut read = 0;
-    let mut j = 0;
-    while j < fresh {
+    for j in 0..fresh {
         let k = count + j;
         let w = walk(at, &rest[read..], SPACING * (k as u64));
         let next = w.at;
@@ -72,7 +66,6 @@ fn write(from: Position, rest: &[u8], lent: &mut [u64], count: usize, fresh: usi
         lent[2 * k + 1] = next.resets;
         at = next;
         read += w.read;
-        j += 1;
     }
 }
 
@@ -109,6 +102,7 @@ fn index_from(from: Position, rest: &[u8], lent: &mut [u64], count: usize) -> In
 
 // The index of a trace, built afresh.
 // Ruled out: a mark for a record that is cut; a reset counted before itself; a number changed by a refusal.
+#[tactic(auto, unfolding(crate::specs::Marks::built))]
 pub fn build(trace: &[u8], lent: &mut [u64]) -> Indexed
     ensures { (lent.new ≡ (built trace.now lent.old).list) × (result ≡ (built trace.now lent.old).given) }
 {

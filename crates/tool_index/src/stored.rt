@@ -1,7 +1,6 @@
 // Marks as a file keeps them.
-ghost use Rattle.std.specs.Prelude.{◌≡◌, ◌+◌, ◌≤◌, length};
-ghost use Rattle.trace.specs.Trace.{word_at};
-ghost use Rattle.tool_index.specs.Stored.{of_words, number_at, mark_bytes, stored_in, decoded};
+ghost use Rattle.std.specs.Prelude.{◌≡◌, length};
+ghost use Rattle.tool_index.specs.Stored.{number_at, mark_bytes, stored_in, decoded};
 
 // The bytes of a mark.
 pub const BYTES: usize = 16;
@@ -12,19 +11,6 @@ pub fn numbers() -> [u64; 8192]
     ensures { 8192 ≡ length result }
 {
     [0u64; 8192]
-}
-
-fn of_words(a: u16, b: u16, c: u16, d: u16) -> u64
-    ensures { result ≡ of_words a b c d }
-{
-    (a as u64) * 281474976710656 + (b as u64) * 4294967296 + (c as u64) * 65536 + (d as u64)
-}
-
-fn word_at(bytes: &[u8], at: usize) -> u16
-    requires { at + 2 ≤ length bytes.now }
-    ensures { result ≡ word_at bytes.now at }
-{
-    steps::word(bytes[at], bytes[at + 1])
 }
 
 // The number that starts at a place.
@@ -38,37 +24,27 @@ fn number_at(bytes: &[u8], at: usize) -> u64
     if at > bytes.len() - 8 {
         return 0;
     }
-    of_words(
-        word_at(bytes, at),
-        word_at(bytes, at + 2),
-        word_at(bytes, at + 4),
-        word_at(bytes, at + 6),
-    )
+    u64::from_be_bytes([
+        bytes[at],
+        bytes[at + 1],
+        bytes[at + 2],
+        bytes[at + 3],
+        bytes[at + 4],
+        bytes[at + 5],
+        bytes[at + 6],
+        bytes[at + 7],
+    ])
 }
 
 // A mark's bytes.
 // Ruled out: the resets first; the lowest byte first.
-pub fn mark_bytes(place: u64, resets: u64) -> [u8; 16]
+pub fn mark_bytes(place: u64, resets: u64) -> [u8; BYTES]
     ensures { result ≡ mark_bytes place resets }
 {
-    [
-        (place / 72057594037927936 % 256) as u8,
-        (place / 281474976710656 % 256) as u8,
-        (place / 1099511627776 % 256) as u8,
-        (place / 4294967296 % 256) as u8,
-        (place / 16777216 % 256) as u8,
-        (place / 65536 % 256) as u8,
-        (place / 256 % 256) as u8,
-        (place % 256) as u8,
-        (resets / 72057594037927936 % 256) as u8,
-        (resets / 281474976710656 % 256) as u8,
-        (resets / 1099511627776 % 256) as u8,
-        (resets / 4294967296 % 256) as u8,
-        (resets / 16777216 % 256) as u8,
-        (resets / 65536 % 256) as u8,
-        (resets / 256 % 256) as u8,
-        (resets % 256) as u8,
-    ]
+    let mut bytes = [0; BYTES];
+    bytes[..8].copy_from_slice(&place.to_be_bytes());
+    bytes[8..].copy_from_slice(&resets.to_be_bytes());
+    bytes
 }
 
 // The marks that bytes hold, into lent numbers as far as these go; how many there are.
@@ -78,11 +54,9 @@ pub fn decode(bytes: &[u8], lent: &mut [u64]) -> usize
     ensures lent_after { lent.new ≡ decoded bytes.now lent.old result }
 {
     let n = (bytes.len() / BYTES).min(lent.len() / 2);
-    let mut i: usize = 0;
-    while i < n {
+    for i in 0..n {
         lent[2 * i] = number_at(bytes, 16 * i);
         lent[2 * i + 1] = number_at(bytes, 16 * i + 8);
-        i += 1;
     }
     n
 }

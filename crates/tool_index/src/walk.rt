@@ -46,6 +46,7 @@ impl Position {
     }
 
     // Past one record.
+    #[tactic(auto, unfolding(crate::specs::Records::bytes_of, crate::specs::Records::resets_in))]
     fn past(self, e: Event, size: usize) -> Position
         requires { (self.number < largest) × (self.place + size ≤ largest) × (self.resets < largest) }
         ensures { result ≡ past self (record { event = e; size = size } ∷ []) }

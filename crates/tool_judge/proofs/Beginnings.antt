@@ -1,14 +1,14 @@
--- With how many bytes two lists begin alike: the steps of the loop that counts them, and lists that are put together. Assumes nothing.
+-- With how many bytes two lists begin alike: the steps of the loop that compares them, and lists that are put together. Assumes nothing.
 use mathlib.Core.Path.{◌≡◌, refl, ap}
 use mathlib.Core.Bool.{Bool, true, false, cond}
 use mathlib.Core.List.{List, [], ◌∷◌, ◌++◌}
-use Prim.Native.Nat.{ℕ, suc, ◌+◌, ◌<◌, ◌≤◌}
+use Prim.Native.Nat.{ℕ, suc, ◌+◌, ◌<◌, ◌≤◌, min}
 use native.Mathlib.Numerals.{add-one}
 use native.Mathlib.Omega.{arith}
-use lib.Dec.{eqb}
+use lib.Dec.{eqb, ltb}
 use lib.ListN.{length, get_or, take, drop, drop_of_length-le}
 use lib.Seq.{drop-cons}
-use borrow.Author.Tests.{eq-eqb, ne_eqb, eqb-true}
+use borrow.Author.Tests.{eq-eqb, ne_eqb, eqb-true, ltb-true, ltb-false}
 use Rattle.tool_judge.specs.Verdict.{alike}
 
 pub alike_none : (x : List ℕ) → alike x [] ≡ 0
@@ -32,6 +32,13 @@ module _ (x y : List ℕ) (i : ℕ) where
 
   pub ends_other : length y ≤ i → i + alike (drop i x) (drop i y) ≡ i
   ends_other p = rw (drop_of_length-le y p, alike_none (drop i x)) (omega arith)
+
+  pub ends_both : min (length x) (length y) ≤ i → i + alike (drop i x) (drop i y) ≡ i
+  ends_both p = go (ltb i (length x)) refl
+    where
+      go : (t : Bool) → ltb i (length x) ≡ t → i + alike (drop i x) (drop i y) ≡ i
+      go true e = ends_other (let h = ltb-true i (length x) e in omega arith)
+      go false e = ends (ltb-false i (length x) e)
 
 -- ---- bounds
 

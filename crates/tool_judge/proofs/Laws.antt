@@ -22,10 +22,11 @@ use Rattle.trace.proofs.Playing.{record_within, play_none, played}
 use Rattle.trace.proofs.Laws.{bytes_each, answers_fit, read_within, resumes}
 use Rattle.answers.specs.declared.Field.{Field}
 use Rattle.tool_judge.specs.Verdict.{alike, first_wrong, wrong_in, verdict, numbered, before}
+use Rattle.tool_judge.specs.Numbers.{number_of}
 use Rattle.tool_judge.specs.Judge.{enough, expected, room_of, walked_to}
 use Rattle.tool_judge.specs.Claims.{OwnAccepted, AcceptedEqual, answer, FirstDiffering, StopTold, afterwards, InParts, Met, Claims}
-use Rattle.tool_judge.specs.declared.Verdict.{Verdict}
-use Rattle.tool_judge.specs.declared.Verdict.TheVariants.{Accepted, Wrong}
+use Rattle.tool_judge.specs.Verdict.{Verdict, accept, reject}
+use Rattle.std.specs.Prelude.{Ok, Err}
 use Rattle.tool_judge.proofs.Beginnings.{alike_self, alike_equal}
 use Rattle.tool_judge.proofs.Verdicts.{accepted, none_right, none_wrong, joined}
 use Rattle.tool_judge.proofs.Walking.{drop_take}
@@ -63,11 +64,11 @@ own_accepted t room h =
     ap (verdict (expected t).answers) same ∙ accepted (expected t).answers (expected t).answers (alike_self _) (alike_self _)
 
 -- A verdict that is `Accepted` comes of equal lists only.
-accepts : (x y : List ℕ) (s t : Bool) → eqb (alike x y) (length x) ≡ s → eqb (alike x y) (length y) ≡ t → verdict x y ≡ Accepted → x ≡ y
+accepts : (x y : List ℕ) (s t : Bool) → eqb (alike x y) (length x) ≡ s → eqb (alike x y) (length y) ≡ t → verdict x y ≡ accept → x ≡ y
 unfolding verdict
 accepts x y true true p q e = alike_equal x y (eqb-true _ _ p) (eqb-true _ _ q)
-accepts x y true false p q e = let no : Wrong (first_wrong x y) (wrong_in x y (first_wrong x y)) ≡ Accepted = rw (p, q) at e in cc
-accepts x y false t p q e = let no : Wrong (first_wrong x y) (wrong_in x y (first_wrong x y)) ≡ Accepted = rw (p) at e in cc
+accepts x y true false p q e = let no : reject (first_wrong x y) (wrong_in x y (first_wrong x y)) ≡ accept = rw (p, q) at e in cc
+accepts x y false t p q e = let no : reject (first_wrong x y) (wrong_in x y (first_wrong x y)) ≡ accept = rw (p) at e in cc
 
 accepted_equal : AcceptedEqual
 accepted_equal t log room h e =
@@ -77,20 +78,20 @@ accepted_equal t log room h e =
 -- ---- the first wrong answer
 
 abbrev right : Verdict → Bool
-right Accepted = true
-right (Wrong k f) = false
+right (Ok x) = true
+right (Err w) = false
 
 -- What a verdict that is not `Accepted` says.
-names : (x y : List ℕ) (k : ℕ) (f : Field) (s t : Bool) → eqb (alike x y) (length x) ≡ s → eqb (alike x y) (length y) ≡ t → verdict x y ≡ Wrong k f
+names : (x y : List ℕ) (k : ℕ) (f : Field) (s t : Bool) → eqb (alike x y) (length x) ≡ s → eqb (alike x y) (length y) ≡ t → verdict x y ≡ reject k f
     → (k ≡ first_wrong x y) × (x ≡ y → ⊥)
 unfolding verdict
-names x y k f true true p q e = let no : Accepted ≡ Wrong k f = rw (p, q) at e in absurd (true≢false (ap right no))
+names x y k f true true p q e = let no : accept ≡ reject k f = rw (p, q) at e in absurd (true≢false (ap right no))
 names x y k f true false p q e =
-    let is : Wrong (first_wrong x y) (wrong_in x y (first_wrong x y)) ≡ Wrong k f = rw (p, q) at e in
-    (cc, λ h. eqb-false _ _ q (sym (ap (alike x) h) ∙ alike_self x ∙ ap length h))
+    let is : reject (first_wrong x y) (wrong_in x y (first_wrong x y)) ≡ reject k f = rw (p, q) at e in
+    (sym (ap number_of is), λ h. eqb-false _ _ q (sym (ap (alike x) h) ∙ alike_self x ∙ ap length h))
 names x y k f false t p q e =
-    let is : Wrong (first_wrong x y) (wrong_in x y (first_wrong x y)) ≡ Wrong k f = rw (p) at e in
-    (cc, λ h. eqb-false _ _ p (sym (ap (alike x) h) ∙ alike_self x))
+    let is : reject (first_wrong x y) (wrong_in x y (first_wrong x y)) ≡ reject k f = rw (p) at e in
+    (sym (ap number_of is), λ h. eqb-false _ _ p (sym (ap (alike x) h) ∙ alike_self x))
 
 pub same_start : (k : ℕ) (x y : List ℕ) → k ≤ alike x y → take k x ≡ take k y
 unfolding alike

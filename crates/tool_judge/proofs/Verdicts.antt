@@ -12,8 +12,7 @@ use Rattle.answers.specs.Field.{field_at}
 use Rattle.answers.specs.declared.Field.{Field}
 use Rattle.answers.specs.declared.Field.TheVariants.{Kind}
 use Rattle.tool_judge.specs.Verdict.{alike, equal, first_wrong, short, wrong_in, verdict, numbered, before}
-use Rattle.tool_judge.specs.declared.Verdict.{Verdict}
-use Rattle.tool_judge.specs.declared.Verdict.TheVariants.{Accepted, Wrong}
+use Rattle.tool_judge.specs.Verdict.{Verdict, accept, reject}
 use Rattle.tool_judge.proofs.Beginnings.{alike_left, alike_right, alike_front, alike_past, alike_take}
 
 -- ---- tests that come to the same
@@ -34,12 +33,12 @@ same_test a b c d f g = go (eqb c d) refl
 
 -- ---- the ways out
 
-pub accepted : (x y : List ℕ) → alike x y ≡ length x → alike x y ≡ length y → verdict x y ≡ Accepted
+pub accepted : (x y : List ℕ) → alike x y ≡ length x → alike x y ≡ length y → verdict x y ≡ accept
 unfolding verdict
 accepted x y p q = simp (eq-eqb (alike x y) (length x) p, eq-eqb (alike x y) (length y) q)
 
 -- Where two bytes differ, or one list ends before the other.
-differs : (x y : List ℕ) → equal x y ≡ false → verdict x y ≡ Wrong (first_wrong x y) (wrong_in x y (first_wrong x y))
+differs : (x y : List ℕ) → equal x y ≡ false → verdict x y ≡ reject (first_wrong x y) (wrong_in x y (first_wrong x y))
 unfolding verdict
 differs x y e = rw e
 
@@ -48,10 +47,10 @@ before_the_end x y h = rw (ne_eqb (alike x y) (length x) (λ e. omega arith))
 
 -- One answer beside at most as many bytes.
 module _ (x y : List ℕ) (whole : length x ≡ answer_length) (most : length y ≤ answer_length) where
-  pub one_right : alike x y ≡ answer_length → verdict x y ≡ Accepted
+  pub one_right : alike x y ≡ answer_length → verdict x y ≡ accept
   one_right e = accepted x y (omega arith) (omega (arith, alike_right x y))
 
-  one_wrong : (alike x y ≡ answer_length → ⊥) → verdict x y ≡ Wrong 0 (cond (ltb (length y) answer_length) Kind (field_at (alike x y)))
+  one_wrong : (alike x y ≡ answer_length → ⊥) → verdict x y ≡ reject 0 (cond (ltb (length y) answer_length) Kind (field_at (alike x y)))
   one_wrong ne =
       let less : alike x y < answer_length = omega (arith, ne, alike_left x y) in
       let first : alike x y / answer_length ≡ 0 = omega arith in
@@ -59,18 +58,18 @@ module _ (x y : List ℕ) (whole : length x ≡ answer_length) (most : length y 
       let there : ltb (length x) (answer_length * 1) ≡ false = le-ltb (length x) (answer_length * 1) (omega arith) in
       differs x y (before_the_end x y (omega arith)) ∙ rw (first, there, place)
 
-  pub one_cut : (alike x y ≡ answer_length → ⊥) → length y < answer_length → verdict x y ≡ Wrong 0 Kind
+  pub one_cut : (alike x y ≡ answer_length → ⊥) → length y < answer_length → verdict x y ≡ reject 0 Kind
   one_cut ne few = one_wrong ne ∙ rw (lt-ltb (length y) answer_length few)
 
-  pub one_field : (alike x y ≡ answer_length → ⊥) → answer_length ≤ length y → verdict x y ≡ Wrong 0 (field_at (alike x y))
+  pub one_field : (alike x y ≡ answer_length → ⊥) → answer_length ≤ length y → verdict x y ≡ reject 0 (field_at (alike x y))
   one_field ne has = one_wrong ne ∙ rw (le-ltb (length y) answer_length has)
 
 -- No answer beside no byte, and beside some.
-pub none_right : (y : List ℕ) → length y ≡ 0 → verdict [] y ≡ Accepted
+pub none_right : (y : List ℕ) → length y ≡ 0 → verdict [] y ≡ accept
 unfolding alike
 none_right y e = accepted [] y refl (sym e)
 
-pub none_wrong : (y : List ℕ) → 0 < length y → verdict [] y ≡ Wrong 0 Kind
+pub none_wrong : (y : List ℕ) → 0 < length y → verdict [] y ≡ reject 0 Kind
 unfolding verdict alike
 none_wrong y some = rw (ne_eqb 0 (length y) (λ e. omega arith))
 
@@ -93,7 +92,7 @@ module _ (x x' log : List ℕ) (n : ℕ) (whole : length x ≡ answer_length * n
     on : alike (x ++ x') log ≡ length x + alike x' rest
     on = alike_past x x' log all
 
-    good : verdict x front ≡ Accepted
+    good : verdict x front ≡ accept
     good = accepted x front (alike_take x log ∙ all) (alike_take x log ∙ all ∙ omega (arith, front_length, within))
 
     next_wrong : first_wrong (x ++ x') log ≡ n + first_wrong x' rest
@@ -124,18 +123,18 @@ module _ (x x' log : List ℕ) (n : ℕ) (whole : length x ≡ answer_length * n
         ∙ ap (λ (t : Bool). t && eqb (length x + alike x' rest) (length log)) ends
         ∙ ap (λ (t : Bool). eqb (alike x' rest) (length x') && t) log_ends
 
-    counted_on : (t : Bool) (k : ℕ) (f : Field) → cond t Accepted (Wrong (n + k) f) ≡ numbered n (cond t Accepted (Wrong k f))
+    counted_on : (t : Bool) (k : ℕ) (f : Field) → cond t accept (reject (n + k) f) ≡ numbered n (cond t accept (reject k f))
     counted_on true k f = refl
     counted_on false k f = refl
 
     after_good : verdict (x ++ x') log ≡ before (verdict x front) (numbered n (verdict x' rest))
     unfolding verdict
     after_good =
-        ap (λ (t : Bool). cond t Accepted (Wrong (first_wrong (x ++ x') log) (wrong_in (x ++ x') log (first_wrong (x ++ x') log)))) same_equal
-        ∙ ap (λ (k : ℕ). cond (equal x' rest) Accepted (Wrong k (wrong_in (x ++ x') log k))) next_wrong
-        ∙ ap (λ (t : Bool). cond (equal x' rest) Accepted (Wrong (n + first_wrong x' rest) (cond (t || short log (n + first_wrong x' rest)) Kind (field_at (alike (x ++ x') log % answer_length))))) (same_short (first_wrong x' rest))
-        ∙ ap (λ (t : Bool). cond (equal x' rest) Accepted (Wrong (n + first_wrong x' rest) (cond (short x' (first_wrong x' rest) || t) Kind (field_at (alike (x ++ x') log % answer_length))))) (same_cut (first_wrong x' rest))
-        ∙ ap (λ (p : ℕ). cond (equal x' rest) Accepted (Wrong (n + first_wrong x' rest) (cond (short x' (first_wrong x' rest) || short rest (first_wrong x' rest)) Kind (field_at p)))) next_place
+        ap (λ (t : Bool). cond t accept (reject (first_wrong (x ++ x') log) (wrong_in (x ++ x') log (first_wrong (x ++ x') log)))) same_equal
+        ∙ ap (λ (k : ℕ). cond (equal x' rest) accept (reject k (wrong_in (x ++ x') log k))) next_wrong
+        ∙ ap (λ (t : Bool). cond (equal x' rest) accept (reject (n + first_wrong x' rest) (cond (t || short log (n + first_wrong x' rest)) Kind (field_at (alike (x ++ x') log % answer_length))))) (same_short (first_wrong x' rest))
+        ∙ ap (λ (t : Bool). cond (equal x' rest) accept (reject (n + first_wrong x' rest) (cond (short x' (first_wrong x' rest) || t) Kind (field_at (alike (x ++ x') log % answer_length))))) (same_cut (first_wrong x' rest))
+        ∙ ap (λ (p : ℕ). cond (equal x' rest) accept (reject (n + first_wrong x' rest) (cond (short x' (first_wrong x' rest) || short rest (first_wrong x' rest)) Kind (field_at p)))) next_place
         ∙ counted_on (equal x' rest) (first_wrong x' rest) (wrong_in x' rest (first_wrong x' rest))
         ∙ sym (ap (λ (v : Verdict). before v (numbered n (verdict x' rest))) good)
 
@@ -156,9 +155,9 @@ module _ (x x' log : List ℕ) (n : ℕ) (whole : length x ≡ answer_length * n
         let a : short (x ++ x') k ≡ short x k = same_less (length (x ++ x')) (answer_length * suc k) (length x) (answer_length * suc k) (λ h. omega (arith, h, inside)) (λ h. omega (arith, inside, length-append x x')) in
         let b : short log k ≡ short front k = same_less (length log) (answer_length * suc k) (length front) (answer_length * suc k) (λ h. omega (arith, h, front_length, inside)) (λ h. omega (arith, h, front_length)) in
         differs (x ++ x') log (before_the_end (x ++ x') log (omega (arith, length-append x x', still, alike_take x log)))
-        ∙ ap (λ (j : ℕ). Wrong (j / answer_length) (cond (short (x ++ x') (j / answer_length) || short log (j / answer_length)) Kind (field_at (j % answer_length)))) still
-        ∙ ap (λ (t : Bool). Wrong k (cond (t || short log k) Kind (field_at (alike x front % answer_length)))) a
-        ∙ ap (λ (t : Bool). Wrong k (cond (short x k || t) Kind (field_at (alike x front % answer_length)))) b
+        ∙ ap (λ (j : ℕ). reject (j / answer_length) (cond (short (x ++ x') (j / answer_length) || short log (j / answer_length)) Kind (field_at (j % answer_length)))) still
+        ∙ ap (λ (t : Bool). reject k (cond (t || short log k) Kind (field_at (alike x front % answer_length)))) a
+        ∙ ap (λ (t : Bool). reject k (cond (short x k || t) Kind (field_at (alike x front % answer_length)))) b
         ∙ sym (ap (λ (v : Verdict). before v (numbered n (verdict x' rest))) (differs x front (before_the_end x front (omega (arith, alike_take x log)))))
 
   -- The verdict on the first n answers stands before that on the rest, whose answers are numbered on.

@@ -22,8 +22,7 @@ use Rattle.trace.proofs.Playing.{unroll, play_none, record_within, one_on, follo
 use Rattle.trace.proofs.Going.{rest, flatten_snoc}
 use Rattle.tool_judge.specs.Verdict.{verdict, numbered, before}
 use Rattle.tool_judge.specs.Judge.{room_of, walked_to, last_of, ran}
-use Rattle.tool_judge.specs.declared.Verdict.{Verdict}
-use Rattle.tool_judge.specs.declared.Verdict.TheVariants.{Accepted}
+use Rattle.tool_judge.specs.Verdict.{Verdict, accept}
 use Rattle.tool_judge.specs.declared.Ran.{Ran}
 use Rattle.tool_judge.proofs.Verdicts.{none_right, joined}
 
@@ -107,7 +106,7 @@ pub record Going (t log : List ℕ) (last : Bool) (m₀ m : Module) (at passed n
   pub so_far : v ≡ verdict done.answers (take (answer_length * n) log)
   pub going : play m₀ t (room_of last t log) ≡ followed done (play m (drop at t) (room_of last t log - answer_length * n))
 
-pub starts : (t log : List ℕ) (last : Bool) (m : Module) → Going t log last m m 0 0 0 Accepted (replicate answer_length 0)
+pub starts : (t log : List ℕ) (last : Bool) (m : Module) → Going t log last m m 0 0 0 accept (replicate answer_length 0)
 unfolding flatten
 starts t log last m =
     record {

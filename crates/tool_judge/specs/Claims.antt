@@ -8,18 +8,18 @@ use Rattle.answers.specs.declared.Field.{Field}
 use Rattle.answers.specs.declared.Field.TheVariants.{Kind}
 use Rattle.tool_judge.specs.Verdict.{numbered, before}
 use Rattle.tool_judge.specs.Judge.{enough, expected, judged, walked}
-use Rattle.tool_judge.specs.declared.Verdict.TheVariants.{Accepted, Wrong}
+use Rattle.tool_judge.specs.Verdict.{accept, reject}
 use Rattle.tool_judge.specs.declared.Walked.{Walked}
 
 -- Our own log of any trace, given room enough, is accepted.
 abbrev pub OwnAccepted : Type 0
 OwnAccepted =
-    (t : List ℕ) (room : ℕ) → enough t ≤ room → (judged t (play reset_module t room).answers).verdict ≡ Accepted
+    (t : List ℕ) (room : ℕ) → enough t ≤ room → (judged t (play reset_module t room).answers).verdict ≡ accept
 
--- Accepted means equal, byte for byte, to what playing the trace gives, whatever room above enough it is given.
+-- accept means equal, byte for byte, to what playing the trace gives, whatever room above enough it is given.
 abbrev pub AcceptedEqual : Type 0
 AcceptedEqual =
-    (t log : List ℕ) (room : ℕ) → enough t ≤ room → (judged t log).verdict ≡ Accepted → log ≡ (play reset_module t room).answers
+    (t log : List ℕ) (room : ℕ) → enough t ≤ room → (judged t log).verdict ≡ accept → log ≡ (play reset_module t room).answers
 
 -- Answer k of a log; fewer bytes where it is cut, none where it is missing.
 abbrev pub answer : List ℕ → ℕ → List ℕ
@@ -28,7 +28,7 @@ answer log k = take answer_length (drop (answer_length * k) log)
 -- The number is that of the first answer that differs: those before it are the same, and it is not.
 abbrev pub FirstDiffering : Type 0
 FirstDiffering =
-    (t log : List ℕ) (k : ℕ) (f : Field) → (judged t log).verdict ≡ Wrong k f →
+    (t log : List ℕ) (k : ℕ) (f : Field) → (judged t log).verdict ≡ reject k f →
     (take (answer_length * k) log ≡ take (answer_length * k) (expected t).answers)
     × (answer log k ≡ answer (expected t).answers k → ⊥)
 
@@ -58,8 +58,8 @@ InParts =
 
 -- A log that is right and one that is not: none for no record, and a byte for none.
 pub record Met : Type 0 where
-  pub right : (judged [] []).verdict ≡ Accepted
-  pub wrong : (judged [] (0x11 ∷ [])).verdict ≡ Wrong 0 Kind
+  pub right : (judged [] []).verdict ≡ accept
+  pub wrong : (judged [] (0x11 ∷ [])).verdict ≡ reject 0 Kind
 
 pub record Claims : Type 0 where
   pub own_accepted : OwnAccepted

@@ -1,11 +1,20 @@
 -- Document 02, L12: a log beside the answers that are right, and the first answer in which it is wrong.
-use Rattle.std.specs.Prelude.{Bool, cond, ◌&&◌, ◌||◌, List, [], ◌∷◌, ℕ, suc, ◌+◌, ◌*◌, ◌/◌, ◌%◌, eqb, ltb, length}
+use Rattle.std.specs.Prelude.{Bool, cond, Result, Ok, Err, ◌&&◌, ◌||◌, List, [], ◌∷◌, ℕ, suc, ◌+◌, ◌*◌, ◌/◌, ◌%◌, eqb, ltb, length}
 use Rattle.answers.specs.Field.{field_at}
 use Rattle.trace.specs.Trace.{answer_length}
 use Rattle.answers.specs.declared.Field.{Field}
 use Rattle.answers.specs.declared.Field.TheVariants.{Kind}
-use Rattle.tool_judge.specs.declared.Verdict.{Verdict}
-use Rattle.tool_judge.specs.declared.Verdict.TheVariants.{Accepted, Wrong}
+use Rattle.tool_judge.specs.declared.Wrong.{Wrong}
+
+-- A log is accepted, or wrong in a field of an answer, by its number.
+abbrev pub Verdict : Type 0
+Verdict = Result (Unit {0}) Wrong
+
+abbrev pub accept : Verdict
+accept = Ok tt
+
+abbrev pub reject : ℕ → Field → Verdict
+reject k f = Err (record { answer = k; field = f })
 
 -- With how many bytes two lists begin alike.
 unfoldable pub alike : List ℕ → List ℕ → ℕ
@@ -31,13 +40,13 @@ wrong_in right log k = cond (short right k || short log k) Kind (field_at (alike
 
 unfoldable pub verdict : List ℕ → List ℕ → Verdict
 verdict right log =
-    cond (equal right log) Accepted (Wrong (first_wrong right log) (wrong_in right log (first_wrong right log)))
+    cond (equal right log) accept (reject (first_wrong right log) (wrong_in right log (first_wrong right log)))
 
 -- A verdict on answers that are numbered on from n, and one that stands before another.
 abbrev pub numbered : ℕ → Verdict → Verdict
-numbered n Accepted = Accepted
-numbered n (Wrong k f) = Wrong (n + k) f
+numbered n (Ok x) = accept
+numbered n (Err w) = reject (n + w.answer) w.field
 
 abbrev pub before : Verdict → Verdict → Verdict
-before Accepted w = w
-before (Wrong k f) w = Wrong k f
+before (Ok x) w = w
+before (Err v) w = Err v

@@ -3,7 +3,7 @@
 
 ghost use Rattle.std.specs.Prelude.{◌≡◌, cond, not, ◌&&◌, ◌≤◌, ltb, length};
 ghost use Rattle.trace.specs.Trace.{answer_length};
-ghost use Rattle.tool_judge.specs.Verdict.{alike, verdict, numbered, before};
+ghost use Rattle.tool_judge.specs.Verdict.{accept, reject, alike, verdict, numbered, before};
 ghost use Rattle.tool_judge.specs.Judge.{judged, walked, ran};
 
 mod claims;
@@ -14,17 +14,17 @@ use qsm::state::Module;
 use trace::refusals::refusal_of;
 use trace::{ANSWER_LENGTH, Parsed};
 
-// A log that is right, or the number of its first wrong answer and the first field of it that is.
+// Why a log is not accepted: the number of its first wrong answer, and the first field of it that is.
 #[derive(Clone, Copy)]
-pub enum Verdict {
-    Accepted,
-    Wrong(usize, Field),
+pub struct Wrong {
+    pub answer: usize,
+    pub field: Field,
 }
 
 // The verdict, and the refusal that stopped the trace (5, 6 or 10) or 0.
 #[derive(Clone, Copy)]
 pub struct Judged {
-    pub verdict: Verdict,
+    pub verdict: Result<(), Wrong>,
     pub stop: u8,
 }
 
@@ -36,7 +36,7 @@ pub struct Walked {
     pub records: usize,
     pub read: usize,
     pub passed: usize,
-    pub verdict: Verdict,
+    pub verdict: Result<(), Wrong>,
     pub stop: u8,
 }
 
@@ -51,43 +51,39 @@ pub struct Ran {
 fn alike(x: &[u8], y: &[u8]) -> usize
     ensures { result ≡ alike x.now y.now }
 {
-    let mut i: usize = 0;
-    while i < x.len() {
-        if i >= y.len() {
-            return i;
-        }
+    let both = x.len().min(y.len());
+    for i in 0..both {
         if x[i] != y[i] {
             return i;
         }
-        i += 1;
     }
-    i
+    both
 }
 
 // Answer n, x, of which the log has the bytes y.
-fn one(n: usize, x: [u8; ANSWER_LENGTH], y: &[u8]) -> Verdict
+fn one(n: usize, x: [u8; ANSWER_LENGTH], y: &[u8]) -> Result<(), Wrong>
     requires { length y.now ≤ answer_length }
     ensures { result ≡ numbered n (verdict x y.now) }
 {
     let k = alike(&x, y);
     if k == ANSWER_LENGTH {
-        return Verdict::Accepted;
+        return Ok(());
     }
-    if y.len() < ANSWER_LENGTH {
-        return Verdict::Wrong(n, Field::Kind);
-    }
-    Verdict::Wrong(n, field_at(k))
+    let field = if y.len() < ANSWER_LENGTH {
+        Field::Kind
+    } else {
+        field_at(k)
+    };
+    Err(Wrong { answer: n, field })
 }
 
 // An earlier wrong answer stands.
-fn told(v: Verdict, n: usize, x: [u8; ANSWER_LENGTH], y: &[u8]) -> Verdict
+fn told(v: Result<(), Wrong>, n: usize, x: [u8; ANSWER_LENGTH], y: &[u8]) -> Result<(), Wrong>
     requires { length y.now ≤ answer_length }
     ensures { result ≡ before v (numbered n (verdict x y.now)) }
 {
-    match v {
-        Verdict::Accepted => one(n, x, y),
-        Verdict::Wrong(_, _) => v,
-    }
+    v?;
+    one(n, x, y)
 }
 
 // Whether an answer waits for the next part of the log.
@@ -104,79 +100,51 @@ fn waits(last: bool, here: usize) -> bool
 pub fn run<'a>(m: Module, trace: &'a [u8], log: &'a [u8], last: bool) -> Ran
     ensures { result ≡ ran m trace.now log.now last }
 {
-    let mut state = m;
-    let mut at: usize = 0;
-    let mut passed: usize = 0;
-    let mut n: usize = 0;
-    let mut verdict = Verdict::Accepted;
+    let mut walked = Walked {
+        state: m,
+        records: 0,
+        read: 0,
+        passed: 0,
+        verdict: Ok(()),
+        stop: 0,
+    };
     let mut ours = [0u8; ANSWER_LENGTH];
-    while at < trace.len() {
-        let p = trace::parse(&trace[at..]);
+    while walked.read < trace.len() {
+        let p = trace::parse(&trace[walked.read..]);
         let Parsed::Record(e, size) = p else {
             let stop = refusal_of(p);
             return Ran {
-                walked: Walked {
-                    state,
-                    records: n,
-                    read: at,
-                    passed,
-                    verdict,
-                    stop,
-                },
+                walked: Walked { stop, ..walked },
                 ours,
             };
         };
+        let passed = walked.passed;
         let here = ANSWER_LENGTH.min(log.len() - passed);
         let full = waits(last, here);
         if full {
             return Ran {
-                walked: Walked {
-                    state,
-                    records: n,
-                    read: at,
-                    passed,
-                    verdict,
-                    stop: 7,
-                },
+                walked: Walked { stop: 7, ..walked },
                 ours,
             };
         }
-        let s = qsm::event::step(state, e);
+        let s = qsm::event::step(walked.state, e);
         let answer = s.answer;
-        let next = s.state;
         // A hold that is refused 10 leaves the module as it was.
-        state = next;
+        walked.state = s.state;
         if answer.refusal == 10 {
             return Ran {
-                walked: Walked {
-                    state,
-                    records: n,
-                    read: at,
-                    passed,
-                    verdict,
-                    stop: 10,
-                },
+                walked: Walked { stop: 10, ..walked },
                 ours,
             };
         }
         let end = passed + here;
         ours = trace::answer_bytes(answer);
-        verdict = told(verdict, n, ours, &log[passed..end]);
-        at += size;
-        passed = end;
-        n += 1;
+        walked.verdict = told(walked.verdict, walked.records, ours, &log[passed..end]);
+        walked.read += size;
+        walked.passed = end;
+        walked.records += 1;
     }
-    Ran {
-        walked: Walked {
-            state,
-            records: n,
-            read: at,
-            passed,
-            verdict,
-            stop: 0,
-        },
-        ours,
-    }
+    Ran { walked, ours }
 }
 
 // The same without the last answer.
@@ -184,27 +152,27 @@ pub fn run<'a>(m: Module, trace: &'a [u8], log: &'a [u8], last: bool) -> Ran
 pub fn walk<'a>(m: Module, trace: &'a [u8], log: &'a [u8], last: bool) -> Walked
     ensures { result ≡ walked m trace.now log.now last }
 {
-    let r = run(m, trace, log, last);
-    r.walked
+    run(m, trace, log, last).walked
 }
 
 // Bytes after the last answer are a wrong answer.
-fn at_end(n: usize, surplus: bool) -> Verdict
-    ensures { result ≡ cond surplus (Verdict.Wrong n Field.Kind) Verdict.Accepted }
+fn at_end(n: usize, surplus: bool) -> Result<(), Wrong>
+    ensures { result ≡ cond surplus (reject n Field.Kind) accept }
 {
     if surplus {
-        return Verdict::Wrong(n, Field::Kind);
+        return Err(Wrong {
+            answer: n,
+            field: Field::Kind,
+        });
     }
-    Verdict::Accepted
+    Ok(())
 }
 
-fn closed(v: Verdict, n: usize, surplus: bool) -> Verdict
-    ensures { result ≡ before v (cond surplus (Verdict.Wrong n Field.Kind) Verdict.Accepted) }
+fn closed(v: Result<(), Wrong>, n: usize, surplus: bool) -> Result<(), Wrong>
+    ensures { result ≡ before v (cond surplus (reject n Field.Kind) accept) }
 {
-    match v {
-        Verdict::Accepted => at_end(n, surplus),
-        Verdict::Wrong(_, _) => v,
-    }
+    v?;
+    at_end(n, surplus)
 }
 
 // Judges a log of a trace, from a module after reset.
@@ -213,8 +181,8 @@ pub fn judge<'a>(trace: &'a [u8], log: &'a [u8]) -> Judged
     ensures { result ≡ judged trace.now log.now }
 {
     let w = walk(Module::reset(), trace, log, true);
-    let v = w.verdict;
-    let verdict = closed(v, w.records, w.passed < log.len());
-    let stop = w.stop;
-    Judged { verdict, stop }
+    Judged {
+        verdict: closed(w.verdict, w.records, w.passed < log.len()),
+        stop: w.stop,
+    }
 }

@@ -1,9 +1,9 @@
 // A judgement in numbers, for hosts in C.
 ghost use Rattle.std.specs.Prelude.{◌≡◌};
 ghost use Rattle.tool_judge.specs.Judge.{judged};
-ghost use Rattle.tool_judge.specs.Numbers.{number_of, field_of, in_numbers};
+ghost use Rattle.tool_judge.specs.Numbers.{in_numbers};
 
-use crate::Verdict;
+use crate::Judged;
 use answers::field_number;
 
 // The number of the first wrong answer and of its first wrong field, both 0 where the log is accepted; and the refusal that stopped the trace
@@ -16,21 +16,22 @@ pub struct Judgement {
     pub stop: u8,
 }
 
-fn number_of(v: Verdict) -> u64
-    ensures { result ≡ number_of v }
-{
-    match v {
-        Verdict::Accepted => 0,
-        Verdict::Wrong(k, _) => k as u64,
-    }
-}
+impl From<Judged> for Judgement {
+    ghost from_gives = { λ j n. n ≡ in_numbers j };
 
-fn field_of(v: Verdict) -> u8
-    ensures { result ≡ field_of v }
-{
-    match v {
-        Verdict::Accepted => 0,
-        Verdict::Wrong(_, f) => field_number(f),
+    fn from(j: Judged) -> Judgement {
+        match j.verdict {
+            Ok(()) => Judgement {
+                number: 0,
+                field: 0,
+                stop: j.stop,
+            },
+            Err(wrong) => Judgement {
+                number: wrong.answer as u64,
+                field: field_number(wrong.field),
+                stop: j.stop,
+            },
+        }
     }
 }
 
@@ -38,14 +39,5 @@ fn field_of(v: Verdict) -> u8
 pub fn judge_numbers<'a>(trace: &'a [u8], log: &'a [u8]) -> Judgement
     ensures { result ≡ in_numbers (judged trace.now log.now) }
 {
-    let j = crate::judge(trace, log);
-    let v = j.verdict;
-    let stop = j.stop;
-    let number = number_of(v);
-    let field = field_of(v);
-    Judgement {
-        number,
-        field,
-        stop,
-    }
+    Judgement::from(crate::judge(trace, log))
 }

@@ -1,36 +1,27 @@
-use mathlib.Core.Path.{sym}
+use mathlib.Core.Path.{◌≡◌, sym, ◌∙◌}
+use borrow.Author.Rules.{rules}
 use lib.Seq.{length-take-le}
+use Rattle.std.specs.Prelude.{Err}
 use Rattle.tool_editions.specs.Editions.{asked}
-use Rattle.tool_editions.proofs.Ways.{past, broken, in_buffer}
+use Rattle.tool_editions.proofs.Ways.{is_refused, inside, in_buffer}
 use Rattle.tool_editions.proofs.ask.Goals as goal
 
-pub returns-then-used-buf : goal.returns-then-used-buf
+pub returns-in_err-before : goal.returns-in_err-before
 unfolding asked
-returns-then-used-buf c =
-    let start = c.args in
-    rw (past start.buf.now start.used c.if-used-buf.true, ← c.past_end.ensures) c.missing.ensures
-
-pub slice_bounds-read-end : goal.slice_bounds-read-end
-slice_bounds-read-end c =
-    let start = c.args in
-    sym (length-take-le start.used start.buf.now c.if-used-buf.false)
-
-pub returns-in_default : goal.returns-in_default
-unfolding asked
-returns-in_default c =
-    let start = c.args in
-    let told = c.in_default.is in
-    rw (broken start.buf.now start.used c.if-used-buf.false c.read-h.ensures told)
-    (rw (c.refusal.ensures, told) at c.missing-in_default.ensures)
+returns-in_err-before c =
+    let is : c.from_residual.result ≡ Err c.in_err-before.field-0.0 = search rules in
+    rw (is, is_refused _ (sym c.in_err-before.was ∙ c.read_used.ensures))
 
 pub slice_bounds-latest-end : goal.slice_bounds-latest-end
 slice_bounds-latest-end c =
-    let start = c.args in
-    sym (length-take-le start.used start.buf.now c.if-used-buf.false)
+    sym (length-take-le c.args.used c.args.buf.now (inside c.args.buf.now c.args.used (sym c.in_ok-before.was ∙ c.read_used.ensures)))
 
-pub returns : goal.returns
+pub returns-in-Some : goal.returns-in-Some
 unfolding asked
-returns c =
-    let start = c.args in
-    rw (in_buffer start.buf.now start.used c.if-used-buf.false c.read-h.ensures c.in-Holds.is)
-    c.latest.ensures
+returns-in-Some c =
+    rw (in_buffer c.args.buf.now c.args.used (sym c.in_ok-before.was ∙ c.read_used.ensures)) (rw c.in-Some.is at c.latest.ensures)
+
+pub returns-in-None : goal.returns-in-None
+unfolding asked
+returns-in-None c =
+    rw (in_buffer c.args.buf.now c.args.used (sym c.in_ok-before.was ∙ c.read_used.ensures)) (rw c.in-None.is at c.latest.ensures)

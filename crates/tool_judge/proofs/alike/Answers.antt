@@ -1,27 +1,17 @@
-use mathlib.Core.Path.{sym, ◌∙◌}
-use borrow.Author.Rules.{rules}
-use Rattle.tool_judge.proofs.Beginnings.{further, stops, ends, ends_other}
+use mathlib.Core.Path.{◌≡◌, sym, ◌∙◌}
+use native.Mathlib.Omega.{arith}
+use Rattle.tool_judge.proofs.Beginnings.{further, stops, ends_both}
 use Rattle.tool_judge.proofs.alike.Goals as goal
-
-pub returns-then-i-y : goal.returns-then-i-y
-returns-then-i-y c =
-    let start = c.args in
-    let loop = c.loop-i in
-    sym (loop.invariant.1 ∙ ends_other start.x.now start.y.now loop.i (search rules))
 
 pub returns-then-x-i : goal.returns-then-x-i
 returns-then-x-i c =
-    let start = c.args in
-    let loop = c.loop-i in
-    sym (loop.invariant.1 ∙ stops start.x.now start.y.now loop.i (search rules) (search rules) c.if-x-i.true)
+    sym (c.loop-i.invariant ∙ stops c.args.x.now c.args.y.now c.loop-i.i (omega arith) (omega arith) c.if-x-i.true)
 
 pub loop-i-preserved : goal.loop-i-preserved
 loop-i-preserved c =
-    let loop = c.loop-i in
-    (search rules, loop.invariant.1 ∙ further _ _ loop.i (search rules) (search rules) c.if-x-i.false)
+    c.loop-i.invariant ∙ further _ _ c.loop-i.i (omega arith) (omega arith) c.if-x-i.false
 
 pub returns : goal.returns
 returns c =
-    let start = c.args in
-    let loop = c.loop-i in
-    sym (loop.invariant.1 ∙ ends start.x.now start.y.now loop.i (search rules))
+    let same : c.min-both.result ≡ c.loop-i.i = omega arith in
+    same ∙ sym (c.loop-i.invariant ∙ ends_both c.args.x.now c.args.y.now c.loop-i.i (omega (arith, c.min-both.ensures)))

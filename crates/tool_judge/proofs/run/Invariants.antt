@@ -1,10 +1,13 @@
+use mathlib.Core.Path.{◌≡◌}
 use Prim.Native.Nat.{◌-◌}
 use lib.ListN.{length}
 use Rattle.tool_judge.proofs.Walking.{Going}
 use Rattle.tool_judge.proofs.run.Given as goal
 
-abbrev pub invariant-loop-at : goal.invariant-loop-at
-invariant-loop-at l = Going l.trace l.log l.last l.initial.state l.state l.at l.passed l.n l.verdict l.ours
+abbrev pub invariant-loop-walked : goal.invariant-loop-walked
+invariant-loop-walked l =
+    Going l.trace l.log l.last l.initial.walked.state l.walked.state l.walked.read l.walked.passed l.walked.records l.walked.verdict l.ours
+    × (l.walked.stop ≡ 0)
 
-abbrev pub decreases-loop-at : goal.decreases-loop-at
-decreases-loop-at l = length l.trace - l.at
+abbrev pub decreases-loop-walked : goal.decreases-loop-walked
+decreases-loop-walked l = length l.trace - l.walked.read
