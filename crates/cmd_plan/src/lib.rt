@@ -11,7 +11,7 @@ use files::system::{Sink, System, failure};
 use read::Reading;
 use shell::message::fail;
 use text::line::Line;
-use tool_plan::Planned;
+use tool_plan::Plan;
 use wanted::Wanted;
 
 mod points;
@@ -37,13 +37,9 @@ fn chosen(b: bool, weight: u16) -> u16
 }
 
 // The proposal with what the converter asks.
-fn changed(w: Wanted, r: Reading, window: u64) -> Planned {
+fn changed(w: Wanted, r: Reading, window: u64) -> Option<Plan> {
     let points = r.points;
-    let planned = tool_plan::quickest::plan(points, window);
-    if planned.refusal != 0 {
-        return planned;
-    }
-    let plan = planned.plan;
+    let plan = tool_plan::quickest::plan(points, window)?;
     let spbr = (w.spbr % 256) as u16;
     let dsckl = (w.dsckl % 128) as u16;
     let spcr0 = plan.spcr0 / 1024 * 1024 + chosen(w.cpol, 512) + chosen(w.cpha, 256) + spbr;
@@ -53,9 +49,7 @@ fn changed(w: Wanted, r: Reading, window: u64) -> Planned {
 
 // Why there is no plan: with no end to the window there would be one, or there is none at all.
 fn refuse(w: Wanted, r: Reading) -> Status {
-    let planned = changed(w, r, u64::MAX);
-    let plan = planned.plan;
-    if planned.refusal == 0 {
+    if let Some(plan) = changed(w, r, u64::MAX) {
         let line = Line::empty()
             .write(b"refusal 11, no plan: it takes ")
             .decimal(20, plan.clock)
@@ -76,9 +70,8 @@ fn refuse(w: Wanted, r: Reading) -> Status {
 }
 
 // The plan on an output, as text or as a trace.
-fn put(w: Wanted, r: Reading, planned: Planned, to: &Sink) -> Out {
+fn put(w: Wanted, r: Reading, plan: Plan, to: &Sink) -> Out {
     let mut buf = io::large_buffer();
-    let plan = planned.plan;
     let points = r.points;
     let out = Out::to(false);
     if w.trace {
@@ -90,14 +83,14 @@ fn put(w: Wanted, r: Reading, planned: Planned, to: &Sink) -> Out {
 }
 
 // Into what a path names.
-fn write_to<R: System>(rt: &R, w: Wanted, r: Reading, planned: Planned, path: &[u8]) -> Status {
+fn write_to<R: System>(rt: &R, w: Wanted, r: Reading, plan: Plan, path: &[u8]) -> Status {
     let mut place = io::buffer();
     let mut beside = io::buffer();
     let t = shell::target::begin(rt, b"plan", path, &mut place, &mut beside);
     let Some(to) = &t.sink else {
         return Status::Failed;
     };
-    let out = put(w, r, planned, to);
+    let out = put(w, r, plan, to);
     if out.failed {
         fail(b"plan", path, to.error());
     }
@@ -108,10 +101,10 @@ fn write_to<R: System>(rt: &R, w: Wanted, r: Reading, planned: Planned, path: &[
     )
 }
 
-fn write_at<R: System>(rt: &R, w: Wanted, r: Reading, planned: Planned, output: usize) -> Status {
+fn write_at<R: System>(rt: &R, w: Wanted, r: Reading, plan: Plan, output: usize) -> Status {
     if output == 0 {
         let to = Sink::output(rt);
-        let out = put(w, r, planned, &to);
+        let out = put(w, r, plan, &to);
         if out.failed {
             fail(b"plan", b"standard output", to.error());
         }
@@ -119,7 +112,7 @@ fn write_at<R: System>(rt: &R, w: Wanted, r: Reading, planned: Planned, output: 
     }
     let mut path = io::buffer();
     match rt.arg(output, &mut path) {
-        Ok(n) => write_to(rt, w, r, planned, &path[..n]),
+        Ok(n) => write_to(rt, w, r, plan, &path[..n]),
         Err(e) => {
             fail(b"plan", b"a file's name", failure(e));
             Status::Failed
@@ -128,11 +121,10 @@ fn write_at<R: System>(rt: &R, w: Wanted, r: Reading, planned: Planned, output: 
 }
 
 fn answer<R: System>(rt: &R, w: Wanted, r: Reading, output: usize) -> Status {
-    let planned = changed(w, r, w.window);
-    if planned.refusal != 0 {
-        return refuse(w, r);
+    match changed(w, r, w.window) {
+        Some(plan) => write_at(rt, w, r, plan, output),
+        None => refuse(w, r),
     }
-    write_at(rt, w, r, planned, output)
 }
 
 fn asked<R: System>(rt: &R, w: Wanted, input: usize, output: usize) -> Status {

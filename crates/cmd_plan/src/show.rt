@@ -13,8 +13,10 @@ fn minus(a: u64, b: u64) -> u64 {
 
 // SPCR2 as loading writes it.
 fn spcr2(plan: Plan) -> u16 {
-    let w = tool_plan::load::write(plan, plan.count as u16 * 2 + 1);
-    (w.value % 65536) as u16
+    match tool_plan::load::write(plan, plan.count as u16 * 2 + 1) {
+        Some(w) => (w.value % 65536) as u16,
+        None => 0,
+    }
 }
 
 fn head_line(plan: Plan, window: u64) -> Line {
@@ -141,13 +143,11 @@ fn run_for(to: &Sink, out: Out, buf: &mut [u8], clocks: u64) -> Out {
 
 // The writes that load a plan.
 fn put_load(to: &Sink, out: Out, buf: &mut [u8], plan: Plan) -> Out {
-    let n = tool_plan::load::writes(plan);
     let mut given = out;
-    let mut i: u16 = 0;
-    while i < n {
-        let w = tool_plan::load::write(plan, i);
-        given = put_write(to, given, buf, w);
-        i += 1;
+    for i in 0..tool_plan::load::writes(plan) {
+        if let Some(w) = tool_plan::load::write(plan, i) {
+            given = put_write(to, given, buf, w);
+        }
     }
     given
 }
