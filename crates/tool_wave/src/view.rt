@@ -1,6 +1,6 @@
 // What is drawn: the pins as driven or not, the request, and the inputs as given.
 ghost use Rattle.std.specs.Prelude.{◌≡◌, cond};
-ghost use Rattle.tool_wave.specs.View.{none, turned_sck, kept_edge, seven, over, alike, same_view};
+ghost use Rattle.tool_wave.specs.View.{none, turned_sck, kept_edge, seven, over};
 
 use until_change::Look;
 
@@ -13,7 +13,7 @@ pub struct Kept {
 }
 
 // `known` after the first record, `given` after the first hold.
-#[derive(Clone, Copy)]
+#[derive(Clone, Copy, PartialEq, Eq)]
 pub struct View {
     pub known: bool,
     pub given: bool,
@@ -81,26 +81,5 @@ impl Kept {
         } else {
             l
         }
-    }
-}
-
-fn alike(a: bool, b: bool) -> bool
-    ensures { result ≡ alike a b }
-{
-    if a { b } else { !b }
-}
-
-impl View {
-    // Ruled out: a vector that changed alone passed over; a level that is no longer driven taken for the same.
-    pub fn same(self, b: View) -> bool
-        ensures { result ≡ same_view self b }
-    {
-        let l = self.look;
-        let m = b.look;
-        alike(self.known, b.known)
-            & alike(self.given, b.given)
-            & alike(self.rxd, b.rxd)
-            & (self.inputs == b.inputs)
-            & l.same(m)
     }
 }

@@ -19,7 +19,7 @@ use steps::of_u32::{larger, least};
 const LONGEST: u32 = 4294967295;
 
 // What an answer shows beside refusal and value.
-#[derive(Clone, Copy)]
+#[derive(Clone, Copy, PartialEq, Eq)]
 pub struct Look {
     pub levels: u8,
     pub mask: u8,
