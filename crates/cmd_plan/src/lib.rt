@@ -12,7 +12,7 @@ use points::Unread;
 use read::Misread;
 use shell::message::fail;
 use text::line::Line;
-use tool_plan::{Planned, SetPoints};
+use tool_plan::{Plan, SetPoints};
 use wanted::Wanted;
 
 mod points;
@@ -37,12 +37,8 @@ fn chosen(b: bool, weight: u16) -> u16
 }
 
 // The proposal with what the converter asks.
-fn changed(w: Wanted, points: SetPoints, window: u64) -> Planned {
-    let planned = tool_plan::quickest::plan(points, window);
-    if planned.refusal != 0 {
-        return planned;
-    }
-    let plan = planned.plan;
+fn changed(w: Wanted, points: SetPoints, window: u64) -> Option<Plan> {
+    let plan = tool_plan::quickest::plan(points, window)?;
     let spbr = (w.spbr % 256) as u16;
     let dsckl = (w.dsckl % 128) as u16;
     let spcr0 = plan.spcr0 / 1024 * 1024 + chosen(w.cpol, 512) + chosen(w.cpha, 256) + spbr;
@@ -52,9 +48,7 @@ fn changed(w: Wanted, points: SetPoints, window: u64) -> Planned {
 
 // Why there is no plan: with no end to the window there would be one, or there is none at all.
 fn refuse(w: Wanted, points: SetPoints) -> Status {
-    let planned = changed(w, points, u64::MAX);
-    let plan = planned.plan;
-    if planned.refusal == 0 {
+    if let Some(plan) = changed(w, points, u64::MAX) {
         let line = Line::empty()
             .write(b"refusal 11, no plan: it takes ")
             .decimal(20, plan.clock)
@@ -74,9 +68,8 @@ fn refuse(w: Wanted, points: SetPoints) -> Status {
 }
 
 // The plan on an output, as text or as a trace.
-fn put(w: Wanted, points: SetPoints, planned: Planned, to: &Sink) -> Out {
+fn put(w: Wanted, points: SetPoints, plan: Plan, to: &Sink) -> Out {
     let mut buf = io::large_buffer();
-    let plan = planned.plan;
     let out = Out::to(false);
     if w.trace {
         let given = show::trace(to, out, &mut buf, plan);
@@ -91,7 +84,7 @@ fn write_to<R: System>(
     rt: &R,
     w: Wanted,
     points: SetPoints,
-    planned: Planned,
+    plan: Plan,
     path: &[u8],
 ) -> Status {
     let mut place = io::buffer();
@@ -99,7 +92,7 @@ fn write_to<R: System>(
     let Some(t) = shell::target::begin(rt, b"plan", path, &mut place, &mut beside) else {
         return Status::Failed;
     };
-    let out = put(w, points, planned, &t.sink);
+    let out = put(w, points, plan, &t.sink);
     if out.failed {
         fail(b"plan", path, t.sink.error());
     }
@@ -111,12 +104,12 @@ fn write_at<R: System>(
     rt: &R,
     w: Wanted,
     points: SetPoints,
-    planned: Planned,
+    plan: Plan,
     output: Option<usize>,
 ) -> Status {
     let Some(at) = output else {
         let to = Sink::output(rt);
-        let out = put(w, points, planned, &to);
+        let out = put(w, points, plan, &to);
         if out.failed {
             fail(b"plan", b"standard output", to.error());
         }
@@ -124,7 +117,7 @@ fn write_at<R: System>(
     };
     let mut path = io::buffer();
     match rt.arg(at, &mut path) {
-        Ok(n) => write_to(rt, w, points, planned, &path[..n]),
+        Ok(n) => write_to(rt, w, points, plan, &path[..n]),
         Err(e) => {
             fail(b"plan", b"a file's name", failure(e));
             Status::Failed
@@ -133,11 +126,10 @@ fn write_at<R: System>(
 }
 
 fn answer<R: System>(rt: &R, w: Wanted, points: SetPoints, output: Option<usize>) -> Status {
-    let planned = changed(w, points, w.window);
-    if planned.refusal != 0 {
-        return refuse(w, points);
+    match changed(w, points, w.window) {
+        Some(plan) => write_at(rt, w, points, plan, output),
+        None => refuse(w, points),
     }
-    write_at(rt, w, points, planned, output)
 }
 
 fn asked<R: System>(rt: &R, w: Wanted, input: Option<usize>, output: Option<usize>) -> Status {

@@ -8,8 +8,10 @@ use tool_plan::{Plan, SetPoints};
 
 // SPCR2 as loading writes it.
 fn spcr2(plan: Plan) -> u16 {
-    let w = tool_plan::load::write(plan, plan.count as u16 * 2 + 1);
-    (w.value % 65536) as u16
+    match tool_plan::load::write(plan, plan.count as u16 * 2 + 1) {
+        Some(w) => (w.value % 65536) as u16,
+        None => 0,
+    }
 }
 
 fn head_line(plan: Plan, window: u64) -> Line {
@@ -110,7 +112,9 @@ fn run_for(to: &Sink, out: Out, buf: &mut [u8], clocks: u64) -> Out {
 fn put_load(to: &Sink, out: Out, buf: &mut [u8], plan: Plan) -> Out {
     let mut given = out;
     for i in 0..tool_plan::load::writes(plan) {
-        given = put_write(to, given, buf, tool_plan::load::write(plan, i));
+        if let Some(w) = tool_plan::load::write(plan, i) {
+            given = put_write(to, given, buf, w);
+        }
     }
     given
 }

@@ -9,7 +9,7 @@ ghost use Rattle.host.specs.Host.{Applied, read_event, write_event};
 ghost use Rattle.trace.specs.Play.{play};
 ghost use Rattle.tool_compare.specs.Compare.{compared_logs, in_numbers};
 ghost use Rattle.tool_plan.specs.Check.{accepts};
-ghost use Rattle.tool_plan.specs.Quickest.{planned};
+ghost use Rattle.tool_plan.specs.Quickest.{answered, planned};
 ghost use Rattle.tool_plan.specs.Writes.{write_no, writes_of};
 ghost use Rattle.tool_editions.specs.Editions.{add, withdraw, get, newest, Changes};
 ghost use Rattle.qsm_c.specs.Play.{Plays};
@@ -189,9 +189,9 @@ pub extern "C" fn qsm_editions_newest(buffer: &[u8], used: usize) -> Given
 // Ruled out: a refusal where some plan is accepted; a plan past the window.
 #[unsafe(no_mangle)]
 pub extern "C" fn qsm_plan(points: SetPoints, window: u64) -> Planned
-    ensures { result ≡ planned points window }
+    ensures { result ≡ answered (planned points window) }
 {
-    tool_plan::quickest::plan(points, window)
+    Planned::from(tool_plan::quickest::plan(points, window))
 }
 
 // Whether a plan is one for set-points and a window, whoever made it.
@@ -214,9 +214,10 @@ pub extern "C" fn qsm_plan_writes(plan: Plan) -> u16
 
 // Write number i of them, in order, SPCR1 last; width 0 past it.
 // Ruled out: SPCR1 before the last entry; the pointers of the plan's own SPCR2.
+#[tactic(auto, unfolding(tool_plan::specs::Writes::write_no))]
 #[unsafe(no_mangle)]
 pub extern "C" fn qsm_plan_write(plan: Plan, i: u16) -> HostWrite
     ensures { result ≡ write_no plan i }
 {
-    tool_plan::load::write(plan, i)
+    tool_plan::load::write(plan, i).unwrap_or(HostWrite::NONE)
 }

@@ -1,14 +1,14 @@
 -- What a call tells, by the outcome's case, and what it leaves of the lent buffer. Assumes nothing.
 use mathlib.Core.Path.{◌≡◌, refl, sym, ap, ◌∙◌}
-use mathlib.Core.Bool.{Bool, true, false}
+use mathlib.Core.Bool.{Bool, true, false, ◌||◌}
 use mathlib.Core.List.{List, [], ◌∷◌, ◌++◌}
 use mathlib.Core.Logic.{inl, inr}
 use Prim.Native.Nat.{ℕ, ◌≤◌, min}
 use native.Mathlib.Omega.{arith}
-use lib.Dec.{ltb}
+use lib.Dec.{eqb, ltb}
 use lib.ListN.{length, take, drop}
 use lib.Seq.{take_all}
-use borrow.Author.Tests.{ne_eqb, le-ltb, ltb-true, ltb-false}
+use borrow.Author.Tests.{le-ltb, ltb-true, ltb-false}
 use types.Run.{OneOf}
 use denote.Enum.Declared.{tag_of}
 use Rattle.tool_lines.specs.Gather.{most}
@@ -45,16 +45,17 @@ not_handed l Ended lent h = refl
 not_handed l (Refused why) lent h = refl
 
 -- A call that is not refused.
-passes : (period : ℕ) (t : List ℕ) (room : ℕ) (s : Lines) → (period ≡ 0 → ⊥) → period ≤ 65535 → most ≤ room
+passes : (period : ℕ) (t : List ℕ) (room : ℕ) (s : Lines) → eqb period 0 || ltb 65535 period ≡ false → most ≤ room
     → called period t room s ≡ go_on period t s
-passes period t room s some fits has = rw (ne_eqb period 0 some, le-ltb 65535 period fits, le-ltb room most has)
+passes period t room s fits has = rw (fits, le-ltb room most has)
 
-pub went : (period : ℕ) (t lent : List ℕ) (s : Lines) → (period ≡ 0 → ⊥) → period ≤ 65535 → most ≤ length lent
-    → (r : Turned) → r ≡ go_on period t s → (left : List ℕ) → left ≡ handed_in r.state.line r.outcome lent
+pub went : (period : ℕ) (t lent : List ℕ) (s : Lines) → eqb period 0 || ltb 65535 period ≡ false → most ≤ length lent
+    → (p : ℕ) → p ≡ period → (r : Turned) → r ≡ go_on p t s → (left : List ℕ) → left ≡ handed_in r.state.line r.outcome lent
     → Calls (called period t (length lent) s) lent r left
-went period t lent s some fits has r is left wrote =
-    rw (passes period t (length lent) s some fits has)
-    (record { answer = is; buffer = wrote ∙ ap (λ (o : Turned). handed_in o.state.line o.outcome lent) is })
+went period t lent s fits has p same r is left wrote =
+    let gone : r ≡ go_on period t s = is ∙ ap (λ (k : ℕ). go_on k t s) same in
+    rw (passes period t (length lent) s fits has)
+    (record { answer = gone; buffer = wrote ∙ ap (λ (o : Turned). handed_in o.state.line o.outcome lent) gone })
 
 -- The first n of 128 characters, copied to the start of a buffer.
 take_most : (n : ℕ) (cs : List ℕ) → length cs ≡ most → (fewer : Bool) → ltb n most ≡ fewer → take (min n most) cs ≡ take n cs

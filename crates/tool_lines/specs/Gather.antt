@@ -1,8 +1,10 @@
 -- Document 02, L8: lines from delivered words.
-use Rattle.std.specs.Prelude.{Bool, cond, List, [], ◌∷◌, ◌++◌, ℕ, ◌+◌, ◌-◌, ◌%◌, ◌^◌, min, eqb, ltb, take, set}
+use Rattle.std.specs.Prelude.{Bool, cond, Option, Some, None, List, [], ◌∷◌, ◌++◌, ℕ, ◌+◌, ◌-◌, ◌%◌, ◌^◌, min, eqb, ltb, take, set}
 use Rattle.steps.specs.Bits.{bit}
 use Rattle.qsm.specs.claims.StatusFlags.{RDRF, OR, NF, FE, PF, place}
 use Rattle.tool_lines.specs.declared.line.Line.{Line}
+use Rattle.tool_lines.specs.declared.line.Cause.{Cause}
+use Rattle.tool_lines.specs.declared.line.Cause.TheVariants.{Framing, Parity, Noise, Length, Overrun}
 use Rattle.tool_lines.specs.declared.line.Gathered.{Gathered}
 use Rattle.tool_lines.specs.declared.line.Outcome.{Outcome}
 use Rattle.tool_lines.specs.declared.line.Outcome.TheVariants.{Nothing, Handed, Dropped, Stopped, Ended, Refused}
@@ -33,6 +35,18 @@ too_long = 4
 
 abbrev pub overrun : ℕ
 overrun = 5
+
+-- The same as the code has them.
+abbrev pub number_of : Cause → ℕ
+number_of Framing = 1
+number_of Parity = 2
+number_of Noise = 3
+number_of Length = too_long
+number_of Overrun = overrun
+
+abbrev pub or_0 : Option Cause → ℕ
+or_0 (Some why) = number_of why
+or_0 None = 0
 
 -- The first cause stays.
 abbrev pub caused : Line → ℕ → Line

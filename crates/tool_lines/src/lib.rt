@@ -1,7 +1,8 @@
 // Document 02, L8: a trace is played with polling put in, and delivered words are gathered into lines.
 #![tactic(auto)]
 
-ghost use Rattle.std.specs.Prelude.{◌≡◌, ◌<◌, ◌≤◌, ◌++◌, length, take, drop};
+ghost use Rattle.std.specs.Prelude.{◌≡◌, ◌<◌, ◌≤◌, ◌||◌, ◌++◌, true, false, eqb, ltb, length, take, drop, MatchOption};
+ghost use Rattle.std.specs.Int.NonZero.{non_zero_u16_get};
 ghost use Rattle.tool_lines.specs.Gather.{most};
 ghost use Rattle.tool_lines.specs.Call.{started, go_on, called, handed_in, Calls};
 
@@ -12,9 +13,10 @@ pub mod piece;
 pub mod poll;
 mod turn;
 
-use line::{Line, Outcome};
+use line::{Line, MOST, Outcome};
 use noise::{Noise, Noises};
 use qsm::state::Module;
+use std::num::NonZeroU16;
 
 // Where a replay stands: the place in the trace, the clocks left of the hold under way, the clocks since the last poll, the hold's levels, the line
 // being gathered, the noise figures, and the module.
@@ -65,9 +67,8 @@ pub fn start() -> Lines
 }
 
 // Turn after turn until there is something to tell.
-fn advance(s: Lines, trace: &[u8], period: u16) -> Turned
-    requires { 0 < period }
-    ensures { result ≡ go_on period trace.now s }
+fn advance(s: Lines, trace: &[u8], period: NonZeroU16) -> Turned
+    ensures { result ≡ go_on (non_zero_u16_get period) trace.now s }
 {
     let mut state = s;
     loop {
@@ -86,7 +87,7 @@ fn put_first(characters: [u8; 128], n: u8, line: &mut [u8])
     requires { most ≤ length line.old }
     ensures { line.new ≡ take n characters ++ drop (length (take n characters)) line.old }
 {
-    let end = line::at_most(n) as usize;
+    let end = usize::from(n.min(MOST));
     line[..end].copy_from_slice(&characters[..end]);
 }
 
@@ -102,21 +103,28 @@ fn hand_in(l: Line, outcome: Outcome, line: &mut [u8])
     put_first(characters, n, line);
 }
 
+// 1 to 65,535 clocks.
+fn period_of(period: u32) -> Option<NonZeroU16>
+    ensures { MatchOption result (eqb period 0 || ltb 65535 period ≡ true) (λ p. (non_zero_u16_get p ≡ period) × (eqb period 0 || ltb 65535 period ≡ false)) }
+{
+    if 65535 < period {
+        return None;
+    }
+    NonZeroU16::new(period as u16)
+}
+
 // Goes on to the next line, drop, stop or end of the trace. The place in the trace counts from its first byte.
 // Ruled out: a line with a lost character; a drop that changes the buffer; a refusal that moves the state.
 pub fn go_on(s: Lines, trace: &[u8], period: u32, line: &mut [u8]) -> Turned
     ensures { Calls (called period trace.now (length line.old) s) line.old result line.new }
 {
-    if period == 0 {
+    let Some(period) = period_of(period) else {
         return s.turned(Outcome::Refused(1));
-    }
-    if 65535 < period {
-        return s.turned(Outcome::Refused(1));
-    }
+    };
     if line.len() < 128 {
         return s.turned(Outcome::Refused(7));
     }
-    let r = advance(s, trace, period as u16);
+    let r = advance(s, trace, period);
     let state = r.state;
     let l = state.line;
     let told = r.outcome;

@@ -1,6 +1,6 @@
 // Lines from delivered words.
-ghost use Rattle.std.specs.Prelude.{◌≡◌, cond, ◌+◌, ◌-◌, ◌^◌, min, eqb};
-ghost use Rattle.tool_lines.specs.Gather.{most, damage, caused, typed, forgotten, following, goes_on, ended, put, touched, shown};
+ghost use Rattle.std.specs.Prelude.{◌≡◌, cond, min};
+ghost use Rattle.tool_lines.specs.Gather.{most, number_of, or_0, damage, caused, typed, forgotten, following, goes_on, ended, put, touched, shown};
 ghost use Rattle.tool_lines.specs.declared.line.Outcome.TheVariants as told;
 
 // The line being gathered: its number, from 0 over all that ended, the first cause to drop it, or 0, and its characters: the first `count`.
@@ -25,6 +25,25 @@ pub enum Outcome {
     Refused(u8),
 }
 
+// The causes, in their order on one word.
+#[derive(Clone, Copy, PartialEq, Eq)]
+pub enum Cause {
+    Framing = 1,
+    Parity = 2,
+    Noise = 3,
+    Length = 4,
+    Overrun = 5,
+}
+
+// As a line has it.
+impl From<Cause> for u8 {
+    ghost from_gives = { λ c n. n ≡ number_of c };
+
+    fn from(cause: Cause) -> u8 {
+        cause as u8
+    }
+}
+
 #[derive(Clone, Copy)]
 pub struct Gathered {
     pub line: Line,
@@ -36,55 +55,44 @@ pub const MOST: u8 = 128;
 
 pub(crate) const NEWLINE: u8 = 0x0A;
 
-// The causes, in their order on one word.
-pub const FRAMING: u8 = 1;
-
-pub const PARITY: u8 = 2;
-
-pub const NOISE: u8 = 3;
-
-pub const LENGTH: u8 = 4;
-
-pub const OVERRUN: u8 = 5;
-
 // FE, PF, NF of a status.
-fn damage(status: u32) -> u8
-    ensures { result ≡ damage status }
+fn damage(status: u32) -> Option<Cause>
+    ensures { or_0 result ≡ damage status }
 {
-    let framing = status / 2 % 2 == 1;
-    let parity = status / 1 % 2 == 1;
-    let noise = status / 4 % 2 == 1;
-    steps::choose(
-        framing,
-        FRAMING,
-        steps::choose(parity, PARITY, steps::choose(noise, NOISE, 0)),
-    )
-}
-
-// The number after this one, as far as numbers go.
-fn next_number(n: u64) -> u64
-    ensures { result ≡ min (n + 1) (2 ^ 64 - 1) }
-{
-    if n < u64::MAX { n + 1 } else { n }
-}
-
-pub(crate) fn at_most(n: u8) -> u8
-    ensures { result ≡ min n most }
-{
-    if n < MOST { n } else { MOST }
+    if status / 2 % 2 == 1 {
+        return Some(Cause::Framing);
+    }
+    if status % 2 == 1 {
+        return Some(Cause::Parity);
+    }
+    if status / 4 % 2 == 1 {
+        return Some(Cause::Noise);
+    }
+    None
 }
 
 impl Line {
     // Ruled out: a later cause over the first one; a cause left out.
-    pub fn caused(mut self, why: u8) -> Line
-        ensures { result ≡ caused self why }
+    pub fn caused(mut self, why: Cause) -> Line
+        ensures { result ≡ caused self (number_of why) }
     {
-        self.cause = steps::choose(self.cause == 0, why, self.cause);
+        if self.cause == 0 {
+            self.cause = u8::from(why);
+        }
         self
     }
 
-    fn caused_if(self, some: bool, why: u8) -> Line
-        ensures { result ≡ cond some (caused self why) self }
+    fn damaged(self, status: u32) -> Line
+        ensures { result ≡ caused self (damage status) }
+    {
+        match damage(status) {
+            Some(why) => self.caused(why),
+            None => self,
+        }
+    }
+
+    fn caused_if(self, some: bool, why: Cause) -> Line
+        ensures { result ≡ cond some (caused self (number_of why)) self }
     {
         if some { self.caused(why) } else { self }
     }
@@ -98,7 +106,7 @@ impl Line {
             self.count = at + 1;
             return self;
         }
-        self.caused(LENGTH)
+        self.caused(Cause::Length)
     }
 
     // Ruled out: a number that a reset skips; the touch of an overrun kept.
@@ -113,7 +121,7 @@ impl Line {
     fn following(mut self) -> Line
         ensures { result ≡ following self }
     {
-        self.number = next_number(self.number);
+        self.number = self.number.saturating_add(1);
         self.cause = 0;
         self.count = 0;
         self
@@ -132,7 +140,7 @@ impl Line {
         ensures { result ≡ cond good (told.Handed self.number (min self.count most)) (told.Dropped self.number self.cause) }
     {
         if good {
-            Outcome::Handed(self.number, at_most(self.count))
+            Outcome::Handed(self.number, self.count.min(MOST))
         } else {
             Outcome::Dropped(self.number, self.cause)
         }
@@ -161,7 +169,7 @@ impl Line {
     fn put(self, status: u32, c: u8) -> Gathered
         ensures { result ≡ put self status c }
     {
-        self.caused(damage(status)).put_or_ended(c == NEWLINE, c)
+        self.damaged(status).put_or_ended(c == NEWLINE, c)
     }
 
     fn put_if(self, delivered: bool, status: u32, c: u8) -> Gathered
@@ -176,6 +184,7 @@ impl Line {
 
     // What a poll makes of a line: its word is put in first, then OR touches the line that is being gathered.
     // Ruled out: a touched line handed over; OR before the word that it came with.
+    #[tactic(auto, unfolding(crate::specs::Gather::shown))]
     pub fn shown(self, status: u32, word: u32) -> Gathered
         ensures { result ≡ shown self status word }
     {
@@ -191,7 +200,7 @@ impl Gathered {
         let line = self.line;
         let outcome = self.outcome;
         Gathered {
-            line: line.caused_if(over, OVERRUN),
+            line: line.caused_if(over, Cause::Overrun),
             outcome,
         }
     }

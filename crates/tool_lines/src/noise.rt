@@ -1,5 +1,5 @@
 // The noise figures of a line's words, its newline's among them.
-ghost use Rattle.std.specs.Prelude.{◌≡◌, cond, ◌+◌, ◌-◌, ◌^◌, min};
+ghost use Rattle.std.specs.Prelude.{◌≡◌};
 ghost use Rattle.tool_lines.specs.Noise.{silent, with_figure, added, heard, unheard};
 
 use crate::line::NEWLINE;
@@ -20,18 +20,6 @@ pub struct Noises {
     pub last: Noise,
 }
 
-// A total that stays at the largest number.
-fn summed(total: u64, figure: u8) -> u64
-    ensures { result ≡ min (total + figure) (2 ^ 64 - 1) }
-{
-    let more = figure as u64;
-    if total < u64::MAX - more {
-        total + more
-    } else {
-        u64::MAX
-    }
-}
-
 impl Noise {
     // Ruled out: a total above 0; a worst figure where there is none.
     pub fn silent() -> Noise
@@ -45,7 +33,7 @@ impl Noise {
         ensures { result ≡ with_figure self figure }
     {
         Noise {
-            total: summed(self.total, figure),
+            total: self.total.saturating_add(u64::from(figure)),
             worst: self.worst.max(figure),
         }
     }

@@ -1,7 +1,8 @@
 // A turn of the replay: the hold under way up to the next poll, or the next record.
 ghost use Rattle.std.specs.Prelude.{◌≡◌, ◌+◌, ◌^◌, ◌<◌};
+ghost use Rattle.std.specs.Int.NonZero.{non_zero_u16_get};
 ghost use Rattle.tool_lines.specs.Schedule.{reaches, stops};
-ghost use Rattle.tool_lines.specs.Call.{turned, moved_to, held_for, gathered, poll_now, hold_for, hold_on, restarted, accessed, event_on, event_or_stop, size_of, record_on, turn};
+ghost use Rattle.tool_lines.specs.Call.{turned, moved_to, held_for, gathered, poll_now, hold_on, restarted, accessed, event_on, event_or_stop, size_of, record_on, turn};
 
 use crate::line::{Gathered, Outcome};
 use crate::noise::Noises;
@@ -11,6 +12,7 @@ use qsm::decision::{fits, shaped};
 use qsm::event::{Access, Event};
 use qsm::lanes::{in_map, touches};
 use qsm::state::Module;
+use std::num::NonZeroU16;
 use trace::Parsed;
 
 // An access that passes 1 and 2 and touches SCSR or SCDR.
@@ -100,25 +102,20 @@ impl Lines {
         self.gathered(p, g, n)
     }
 
-    fn hold_for(self, period: u16, since: u16, pins: u8, rxd: bool, n: u32) -> Turned
-        requires { since < period }
-        ensures { result ≡ hold_for period since self pins rxd n }
+    // A hold of n clocks, or as much of it as comes before the next poll, and then the poll.
+    #[tactic(auto, unfolding(crate::specs::Call::hold_on))]
+    fn hold_on(self, period: NonZeroU16, pins: u8, rxd: bool, n: u32) -> Turned
+        ensures { result ≡ hold_on (non_zero_u16_get period) self pins rxd n }
     {
-        let due = (period - since) as u32;
+        let clocks = period.get();
+        let since = self.since % clocks;
+        let due = u32::from(clocks - since);
         if n < due {
             self.held_for(pins, rxd, n, 0, since + (n as u16))
                 .turned(Outcome::Nothing)
         } else {
             self.held_for(pins, rxd, due, n - due, 0).poll_now()
         }
-    }
-
-    fn hold_on(self, period: u16, pins: u8, rxd: bool, n: u32) -> Turned
-        requires { 0 < period }
-        ensures { result ≡ hold_on period self pins rxd n }
-    {
-        let since = self.since % period;
-        self.hold_for(period, since, pins, rxd, n)
     }
 
     fn restarted(mut self) -> Lines
@@ -146,9 +143,9 @@ impl Lines {
         self
     }
 
-    fn event_on(self, period: u16, e: Event) -> Turned
-        requires { 0 < period }
-        ensures { result ≡ event_on period self e }
+    #[tactic(auto, unfolding(crate::specs::Call::event_on))]
+    fn event_on(self, period: NonZeroU16, e: Event) -> Turned
+        ensures { result ≡ event_on (non_zero_u16_get period) self e }
     {
         match e {
             Event::Reset => self.restarted().turned(Outcome::Nothing),
@@ -158,9 +155,9 @@ impl Lines {
     }
 
     // An event whose record has so many bytes, unless it stops the replay.
-    fn event_or_stop(self, period: u16, e: Event, n: usize, why: u8) -> Turned
-        requires { (0 < period) × (self.at + n < 2 ^ 64) }
-        ensures { result ≡ event_or_stop period self e n why }
+    fn event_or_stop(self, period: NonZeroU16, e: Event, n: usize, why: u8) -> Turned
+        requires { self.at + n < 2 ^ 64 }
+        ensures { result ≡ event_or_stop (non_zero_u16_get period) self e n why }
     {
         if why == 0 {
             self.moved_to(self.at + n).event_on(period, e)
@@ -169,9 +166,9 @@ impl Lines {
         }
     }
 
-    fn record_on(self, period: u16, p: Parsed) -> Turned
-        requires { (0 < period) × (self.at + size_of p < 2 ^ 64) }
-        ensures { result ≡ record_on period self p }
+    fn record_on(self, period: NonZeroU16, p: Parsed) -> Turned
+        requires { self.at + size_of p < 2 ^ 64 }
+        ensures { result ≡ record_on (non_zero_u16_get period) self p }
     {
         match p {
             Parsed::Record(e, n) => {
@@ -184,9 +181,8 @@ impl Lines {
     }
 
     // Ruled out: a poll a clock late; a record played before the hold under way has ended.
-    pub(crate) fn turn(self, trace: &[u8], period: u16) -> Turned
-        requires { 0 < period }
-        ensures { result ≡ turn period trace.now self }
+    pub(crate) fn turn(self, trace: &[u8], period: NonZeroU16) -> Turned
+        ensures { result ≡ turn (non_zero_u16_get period) trace.now self }
     {
         if self.left != 0 {
             let device = self.device;

@@ -7,7 +7,7 @@ use native.Mathlib.Omega.{arith}
 use borrow.Author.Tests.{le-leb, lt-leb}
 use Rattle.qsm.specs.declared.event.Event.{Event}
 use Rattle.tool_plan.specs.Loading.{writing, entries_written}
-use Rattle.tool_plan.specs.Writes.{entries_of, entry_write, register_write, write_no, first_writes, InOrder}
+use Rattle.tool_plan.specs.Writes.{entries_of, entry_write, register_write, write_at, or_none, write_no, first_writes, InOrder}
 use Rattle.tool_plan.specs.declared.Plan.{Plan}
 use Rattle.tool_plan.specs.declared.load.HostWrite.{HostWrite}
 
@@ -16,21 +16,21 @@ event w = writing w.width w.offset w.value
 
 module _ (p : Plan) where
   word_of : (k : ℕ) → k < entries_of p → write_no p (k * 2) ≡ entry_write p k true
-  unfolding write_no
+  unfolding write_no write_at
   word_of k less =
       let half : k * 2 / 2 ≡ k = omega arith in
       let even : k * 2 % 2 ≡ 0 = omega arith in
       rw (lt-leb (entries_of p * 2) (k * 2) (omega arith), half, even)
 
   byte_of : (k : ℕ) → k < entries_of p → write_no p (suc (k * 2)) ≡ entry_write p k false
-  unfolding write_no
+  unfolding write_no write_at
   byte_of k less =
       let half : suc (k * 2) / 2 ≡ k = omega arith in
       let odd : suc (k * 2) % 2 ≡ 1 = omega arith in
       rw (lt-leb (entries_of p * 2) (suc (k * 2)) (omega arith), half, odd)
 
-  register_of : (j : ℕ) → write_no p (j + entries_of p * 2) ≡ register_write p j
-  unfolding write_no
+  register_of : (j : ℕ) → write_no p (j + entries_of p * 2) ≡ or_none (register_write p j)
+  unfolding write_no write_at
   register_of j =
       let back : j + entries_of p * 2 - entries_of p * 2 ≡ j = omega arith in
       rw (le-leb (entries_of p * 2) (j + entries_of p * 2) (omega arith), back)
@@ -60,8 +60,8 @@ in_order p few =
     (entries p (entries_of p) (omega arith) ∙ ap (entries_written p) all)
     ∙ ap (λ (w : HostWrite). ((entries_written p p.count ++ (event w ∷ [])) ++ (event (write_no p (suc n)) ∷ [])) ++ (event (write_no p (suc (suc n))) ∷ []))
     (ap (write_no p) (sym e₀) ∙ register_of p 0)
-    ∙ ap (λ (w : HostWrite). ((entries_written p p.count ++ (event (register_write p 0) ∷ [])) ++ (event w ∷ [])) ++ (event (write_no p (suc (suc n))) ∷ []))
+    ∙ ap (λ (w : HostWrite). ((entries_written p p.count ++ (event (or_none (register_write p 0)) ∷ [])) ++ (event w ∷ [])) ++ (event (write_no p (suc (suc n))) ∷ []))
     (ap (write_no p) (sym e₁) ∙ register_of p 1)
-    ∙ ap (λ (w : HostWrite). ((entries_written p p.count ++ (event (register_write p 0) ∷ [])) ++ (event (register_write p 1) ∷ [])) ++ (event w ∷ []))
+    ∙ ap (λ (w : HostWrite). ((entries_written p p.count ++ (event (or_none (register_write p 0)) ∷ [])) ++ (event (or_none (register_write p 1)) ∷ [])) ++ (event w ∷ []))
     (ap (write_no p) (sym e₂) ∙ register_of p 2)
     ∙ simp append_assoc

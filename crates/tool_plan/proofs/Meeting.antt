@@ -58,7 +58,7 @@ example =
     record {
       accepted = refl;
       too_late = refl;
-      planned_at = (refl, refl);
+      planned_at = refl;
       no_plan_holds = refl;
       sized = record { spcr0 = omega arith; spcr1 = omega arith; spcr2 = omega arith; commands = command_small };
       ready = ready;

@@ -1,5 +1,5 @@
 -- The ways out of the checker, the clock of an edge, and the bound of a plan's clocks. Assumes nothing.
-use mathlib.Core.Path.{◌≡◌, sym, ap}
+use mathlib.Core.Path.{◌≡◌, ap}
 use mathlib.Core.Bool.{Bool, true, false, ◌&&◌, and-false}
 use mathlib.Core.List.{List}
 use Prim.Native.Nat.{ℕ, zero, suc, ◌+◌, ◌-◌, ◌*◌, ◌≤◌, ◌<◌}
@@ -9,7 +9,7 @@ use lib.ListN.{get_or}
 use borrow.Author.Tests.{eq-eqb, ne_eqb}
 use Rattle.qspi.specs.claims.Run.{edge_at}
 use Rattle.qspi.proofs.Marked.{k9}
-use Rattle.tool_plan.specs.Check.{each, proper, carried, pointed, allowed, clock_before, clock_of, accepts}
+use Rattle.tool_plan.specs.Check.{each, proper, carried, pointed, allowed, clock_before, last_edge, accepts}
 use Rattle.tool_plan.specs.declared.SetPoints.{SetPoints}
 use Rattle.tool_plan.specs.declared.Plan.{Plan}
 
@@ -35,8 +35,8 @@ module _ (s : SetPoints) (window : ℕ) (p : Plan) where
   other_number h = simp (ne_eqb p.count s.count h, and-false)
 
   abbrev rest : ℕ → Bool
-  rest n = each n (carried s p) && pointed p && allowed p && eqb p.clock (clock_of p) && leb p.clock window
+  rest n = each s.count (carried s p) && pointed p && allowed p && eqb p.clock (last_edge p (n - 1)) && leb p.clock window
 
-  pub judged : proper s ≡ true → p.count ≡ s.count → accepts s window p ≡ rest p.count
+  pub judged : proper s ≡ true → p.count ≡ s.count → accepts s window p ≡ rest s.count
   unfolding accepts
-  judged h e = rw (h, eq-eqb p.count s.count e) (ap rest (sym e))
+  judged h e = rw (h, eq-eqb p.count s.count e) (ap rest e)

@@ -1,9 +1,9 @@
 -- Set-points, plans, a module and a hold that the laws speak of: two set-points, of 8 and of 12 bits.
-use Rattle.std.specs.Prelude.{◌≡◌, true, false, [], ◌∷◌, replicate}
+use Rattle.std.specs.Prelude.{◌≡◌, true, false, None, MatchOption, [], ◌∷◌, replicate}
 use Rattle.qsm.specs.model.State.{reset_module}
 use Rattle.qsm.specs.declared.state.Module.{Module}
 use Rattle.tool_plan.specs.Check.{accepts}
-use Rattle.tool_plan.specs.Quickest.{no_plan, planned}
+use Rattle.tool_plan.specs.Quickest.{planned}
 use Rattle.tool_plan.specs.Loading.{writing}
 use Rattle.tool_plan.specs.Running.{played, Span, Counts, NoFault, Ready, Sized}
 use Rattle.tool_plan.specs.declared.SetPoints.{SetPoints}
@@ -43,8 +43,8 @@ hold = record { pins = 0; rxd = true; clocks = 177 }
 pub record Example : Type 0 where
   pub accepted : accepts points 177 by_hand ≡ true
   pub too_late : accepts points 176 by_hand ≡ false
-  pub planned_at : ((planned points 95).refusal ≡ 0) × ((planned points 95).plan.clock ≡ 95)
-  pub no_plan_holds : planned points 94 ≡ no_plan
+  pub planned_at : MatchOption (planned points 95) ⊥ (λ p. p.clock ≡ 95)
+  pub no_plan_holds : planned points 94 ≡ None
   pub sized : Sized by_hand
   pub ready : Ready set_up
   pub counts : Counts set_up (hold ∷ [])

@@ -1,5 +1,5 @@
 -- Document 02, L10: what the planner proposes, and a proposal changed. The quickest entry has a pre-delay of 1, by DSCK with DSCKL 1, SPBR 2 and the plain delay.
-use Rattle.std.specs.Prelude.{cond, List, ℕ, zero, suc, ◌+◌, ◌-◌, ◌*◌, ◌%◌, eqb, get_or, set, replicate}
+use Rattle.std.specs.Prelude.{cond, Option, Some, None, List, ℕ, zero, suc, ◌+◌, ◌-◌, ◌*◌, ◌%◌, eqb, get_or, set, replicate}
 use Rattle.tool_plan.specs.Check.{clock_of, accepts}
 use Rattle.tool_plan.specs.declared.SetPoints.{SetPoints}
 use Rattle.tool_plan.specs.declared.Plan.{Plan}
@@ -38,7 +38,7 @@ proposed_at s clock =
 unfoldable pub proposal : SetPoints → Plan
 proposal s = proposed_at s (clock_of (proposed_at s 0))
 
--- No plan: refusal 11, and zeros.
+-- As hosts have it: no plan is refusal 11, and zeros.
 abbrev pub no_plan : Planned
 no_plan =
     record {
@@ -57,11 +57,15 @@ no_plan =
           };
     }
 
--- A plan if it is accepted, and else none.
-unfoldable pub if_accepted : SetPoints → ℕ → Plan → Planned
-if_accepted s window p = cond (accepts s window p) (record { refusal = 0; plan = p }) no_plan
+abbrev pub answered : Option Plan → Planned
+answered (Some p) = record { refusal = 0; plan = p }
+answered None = no_plan
 
-abbrev pub planned : SetPoints → ℕ → Planned
+-- A plan if it is accepted, and else none.
+unfoldable pub if_accepted : SetPoints → ℕ → Plan → Option Plan
+if_accepted s window p = cond (accepts s window p) (Some p) None
+
+abbrev pub planned : SetPoints → ℕ → Option Plan
 planned s window = if_accepted s window (proposal s)
 
 -- A plan with other registers, and the clock that it then has.
@@ -82,5 +86,5 @@ changed_at p spcr0 spcr1 clock =
 unfoldable pub changed : Plan → ℕ → ℕ → Plan
 changed p spcr0 spcr1 = changed_at p spcr0 spcr1 (clock_of (changed_at p spcr0 spcr1 0))
 
-abbrev pub revised : SetPoints → ℕ → Plan → ℕ → ℕ → Planned
+abbrev pub revised : SetPoints → ℕ → Plan → ℕ → ℕ → Option Plan
 revised s window p spcr0 spcr1 = if_accepted s window (changed p spcr0 spcr1)

@@ -2,14 +2,16 @@
 // plan is, and a planner that proposes the quickest.
 #![tactic(auto)]
 
-ghost use Rattle.std.specs.Prelude.{◌≡◌, ◌^◌, ◌≤◌, ◌<◌};
-ghost use Rattle.tool_plan.specs.Check.{each, in_range, ranged, proper, carries, carried, pointed, allowed, clock_before, last_edge, accepts};
+ghost use Rattle.std.specs.Prelude.{◌≡◌, ◌-◌, true, false, MatchOption};
+ghost use Rattle.tool_plan.specs.Check.{each, in_range, ranged, proper, carries, carried, pointed, allowed, last_edge, accepts};
 ghost use Rattle.qspi.specs.claims.Run.{last_clock_of, length_of};
 
 mod claims;
 pub mod load;
+mod points;
 pub mod quickest;
 
+use points::Points;
 use qspi::fields::{bits_of, delay_after, mstr, pre_delay, spbr, spe, wren};
 use qspi::registers::spcr0_unmodelled;
 
@@ -49,65 +51,26 @@ pub struct Planned {
 
 // ---- the checker
 
-// The first number that has more bits.
-fn limit(bits: u8) -> u32
-    requires { (8 ≤ bits) × (bits ≤ 16) }
-    ensures { result ≡ 2 ^ bits }
-{
-    match bits {
-        8 => 256,
-        9 => 512,
-        10 => 1024,
-        11 => 2048,
-        12 => 4096,
-        13 => 8192,
-        14 => 16384,
-        15 => 32768,
-        _ => 65536,
-    }
-}
-
 // A set-point in range.
 fn in_range(select: u8, bits: u8, word: u16) -> bool
     ensures { result ≡ in_range select bits word }
 {
-    if bits < 8 {
-        return false;
-    }
-    if 16 < bits {
-        return false;
-    }
-    (select <= 15) & ((word as u32) < limit(bits))
-}
-
-fn in_ranges(points: SetPoints, n: usize) -> bool
-    requires { n ≤ 16 }
-    ensures { result ≡ each n (ranged points) }
-{
-    let selects = points.selects;
-    let bits = points.bits;
-    let words = points.words;
-    let mut all = true;
-    let mut k: usize = 0;
-    while k < n {
-        all = all & in_range(selects[k], bits[k], words[k]);
-        k += 1;
-    }
-    all
+    select <= 15 && 8 <= bits && bits <= 16 && u32::from(word) < 1 << bits
 }
 
 // One to sixteen set-points, each in range.
-fn proper(points: SetPoints) -> bool
-    ensures { result ≡ proper points }
+#[tactic(auto, unfolding(crate::specs::Check::proper))]
+fn proper(points: SetPoints) -> Option<Points>
+    ensures { MatchOption result (proper points ≡ false) (λ p. (p.given ≡ points) × (proper points ≡ true)) }
 {
-    let n = points.count as usize;
-    if n < 1 {
-        return false;
+    if points.count < 1 || 16 < points.count {
+        return None;
     }
-    if 16 < n {
-        return false;
+    let proper = Points { given: points };
+    if !proper.in_ranges() {
+        return None;
     }
-    in_ranges(points, n)
+    Some(proper)
 }
 
 // An entry with a set-point's own select, bit count and whole word.
@@ -117,23 +80,50 @@ fn carries(spcr0: u16, command: u8, sent: u16, select: u8, bits: u8, word: u16) 
     (command % 16 == select) & (sent == word) & (bits_of(spcr0, command) == bits as u16)
 }
 
-fn carried(points: SetPoints, plan: Plan, n: usize) -> bool
-    requires { n ≤ 16 }
-    ensures { result ≡ each n (carried points plan) }
-{
-    let selects = points.selects;
-    let bits = points.bits;
-    let words = points.words;
-    let spcr0 = plan.spcr0;
-    let commands = plan.commands;
-    let sent = plan.words;
-    let mut all = true;
-    let mut k: usize = 0;
-    while k < n {
-        all = all & carries(spcr0, commands[k], sent[k], selects[k], bits[k], words[k]);
-        k += 1;
+impl Points {
+    #[tactic(auto, unfolding(crate::specs::Check::each))]
+    fn in_ranges(self) -> bool
+        ensures { result ≡ each self.given.count (ranged self.given) }
+    {
+        let points = self.given;
+        let mut all = true;
+        for k in 0..usize::from(points.count) {
+            all &= in_range(points.selects[k], points.bits[k], points.words[k]);
+        }
+        all
     }
-    all
+
+    #[tactic(auto, unfolding(crate::specs::Check::each))]
+    fn carried(self, plan: Plan) -> bool
+        ensures { result ≡ each self.given.count (carried self.given plan) }
+    {
+        let points = self.given;
+        let mut all = true;
+        for k in 0..usize::from(points.count) {
+            all &= carries(
+                plan.spcr0,
+                plan.commands[k],
+                plan.words[k],
+                points.selects[k],
+                points.bits[k],
+                points.words[k],
+            );
+        }
+        all
+    }
+
+    // The clock of the last edge, of a plan of as many entries.
+    #[tactic(auto, unfolding(crate::specs::Check::clock_before))]
+    pub(crate) fn last_edge(self, plan: Plan) -> u64
+        ensures { result ≡ last_edge plan (self.given.count - 1) }
+    {
+        let last = usize::from(self.given.count) - 1;
+        let mut clocks = last_clock(plan.spcr0, plan.spcr1, plan.commands[last]);
+        for k in 0..last {
+            clocks += length(plan.spcr0, plan.spcr1, plan.commands[k]);
+        }
+        clocks
+    }
 }
 
 // Consecutive entries modulo 16 from the first pointer to the last.
@@ -171,47 +161,20 @@ fn length(spcr0: u16, spcr1: u16, command: u8) -> u64
     last_clock(spcr0, spcr1, command) + delay_after(spcr1, command) as u64
 }
 
-// The clocks before entry n's clock 1.
-fn clock_before(plan: Plan, n: usize) -> u64
-    requires { n ≤ 16 }
-    ensures { result ≡ clock_before plan.spcr0 plan.spcr1 plan.commands n }
-{
-    let spcr0 = plan.spcr0;
-    let spcr1 = plan.spcr1;
-    let commands = plan.commands;
-    let mut clocks: u64 = 0;
-    let mut k: usize = 0;
-    while k < n {
-        clocks += length(spcr0, spcr1, commands[k]);
-        k += 1;
-    }
-    clocks
-}
-
-// The clock of the last edge.
-fn last_edge(plan: Plan, k: usize) -> u64
-    requires { k < 16 }
-    ensures { result ≡ last_edge plan k }
-{
-    let commands = plan.commands;
-    clock_before(plan, k) + last_clock(plan.spcr0, plan.spcr1, commands[k])
-}
-
 // Whether a plan is one for these set-points and this window.
 // Ruled out: a word out of order or a count of another entry accepted; WREN let through; a clock one short; a plan at its window refused.
 pub fn accepts(points: SetPoints, window: u64, plan: Plan) -> bool
     ensures { result ≡ accepts points window plan }
 {
-    if !proper(points) {
+    let Some(proper) = proper(points) else {
         return false;
-    }
+    };
     if plan.count != points.count {
         return false;
     }
-    let n = plan.count as usize;
-    carried(points, plan, n)
+    proper.carried(plan)
         & pointed(plan)
         & allowed(plan)
-        & (plan.clock == last_edge(plan, n - 1))
+        & (plan.clock == proper.last_edge(plan))
         & (plan.clock <= window)
 }

@@ -1,8 +1,9 @@
 // The planner: the quickest plan for set-points, if it fits the window; and a plan with other registers.
-ghost use Rattle.std.specs.Prelude.{◌≡◌, cond, ◌≤◌, ◌+◌, ◌%◌, ◌*◌, eqb};
-ghost use Rattle.tool_plan.specs.Quickest.{quickest, commands_of, other_count, proposed_at, proposal, no_plan, if_accepted, planned, changed, revised};
+ghost use Rattle.std.specs.Prelude.{◌≡◌, cond, eqb};
+ghost use Rattle.tool_plan.specs.Quickest.{quickest, commands_of, other_count, proposed_at, proposal, answered, if_accepted, planned, revised};
 
-use crate::{Plan, Planned, SetPoints, accepts, last_edge, proper};
+use crate::points::Points;
+use crate::{Plan, Planned, SetPoints, accepts, proper};
 
 // The command of a set-point.
 fn quickest(select: u8, bits: u8) -> u8
@@ -14,21 +15,6 @@ fn quickest(select: u8, bits: u8) -> u8
     64 + 16 + select % 16
 }
 
-fn commands_of(points: SetPoints, n: usize) -> [u8; 16]
-    requires { n ≤ 16 }
-    ensures { result ≡ commands_of points.selects points.bits n }
-{
-    let selects = points.selects;
-    let bits = points.bits;
-    let mut commands = [0u8; 16];
-    let mut k: usize = 0;
-    while k < n {
-        commands[k] = quickest(selects[k], bits[k]);
-        k += 1;
-    }
-    commands
-}
-
 // The count that BITS must hold.
 fn other_or(bits: u8, before: u8) -> u8
     ensures { result ≡ cond (eqb bits 8) before bits }
@@ -36,112 +22,119 @@ fn other_or(bits: u8, before: u8) -> u8
     if bits == 8 { before } else { bits }
 }
 
-fn other_count(points: SetPoints, n: usize) -> u8
-    requires { n ≤ 16 }
-    ensures { result ≡ other_count points.bits n }
-{
-    let bits = points.bits;
-    let mut other: u8 = 8;
-    let mut k: usize = 0;
-    while k < n {
-        other = other_or(bits[k], other);
-        k += 1;
+impl Points {
+    #[tactic(auto, unfolding(crate::specs::Quickest::commands_of))]
+    fn commands(self) -> [u8; 16]
+        ensures { result ≡ commands_of self.given.selects self.given.bits self.given.count }
+    {
+        let points = self.given;
+        let mut commands = [0; 16];
+        for k in 0..usize::from(points.count) {
+            commands[k] = quickest(points.selects[k], points.bits[k]);
+        }
+        commands
     }
-    other
-}
 
-// The quickest plan, with its clock still 0.
-fn proposed(points: SetPoints) -> Plan
-    requires { (1 ≤ points.count) × (points.count ≤ 16) }
-    ensures { result ≡ proposed_at points 0 }
-{
-    let n = points.count as usize;
-    let other = other_count(points, n) as u16;
-    let commands = commands_of(points, n);
-    let words = points.words;
-    Plan {
-        clock: 0,
-        spcr0: 0x8002 + other % 16 * 1024,
-        spcr1: 0x8100,
-        spcr2: 0,
-        count: points.count,
-        first: 0,
-        last: points.count - 1,
-        commands,
-        words,
+    #[tactic(auto, unfolding(crate::specs::Quickest::other_count))]
+    fn other_count(self) -> u8
+        ensures { result ≡ other_count self.given.bits self.given.count }
+    {
+        let points = self.given;
+        let mut other = 8;
+        for k in 0..usize::from(points.count) {
+            other = other_or(points.bits[k], other);
+        }
+        other
+    }
+
+    // The quickest plan, with its clock still 0.
+    fn proposed(self) -> Plan
+        ensures { result ≡ proposed_at self.given 0 }
+    {
+        let points = self.given;
+        let commands = self.commands();
+        let words = points.words;
+        Plan {
+            clock: 0,
+            spcr0: 0x8002 + u16::from(self.other_count()) % 16 * 1024,
+            spcr1: 0x8100,
+            spcr2: 0,
+            count: points.count,
+            first: 0,
+            last: points.count - 1,
+            commands,
+            words,
+        }
+    }
+
+    #[tactic(auto, unfolding(crate::specs::Quickest::proposal))]
+    fn proposal(self) -> Plan
+        ensures { result ≡ proposal self.given }
+    {
+        let mut plan = self.proposed();
+        plan.clock = self.last_edge(plan);
+        plan
     }
 }
 
-fn proposal(points: SetPoints) -> Plan
-    requires { (1 ≤ points.count) × (points.count ≤ 16) }
-    ensures { result ≡ proposal points }
-{
-    let mut plan = proposed(points);
-    let clock = last_edge(plan, points.count as usize - 1);
-    plan.clock = clock;
-    plan
+impl From<Option<Plan>> for Planned {
+    ghost from_gives = { λ p n. n ≡ answered p };
+
+    fn from(plan: Option<Plan>) -> Planned {
+        match plan {
+            Some(plan) => Planned { plan, refusal: 0 },
+            None => {
+                let plan = Plan {
+                    clock: 0,
+                    spcr0: 0,
+                    spcr1: 0,
+                    spcr2: 0,
+                    count: 0,
+                    first: 0,
+                    last: 0,
+                    commands: [0; 16],
+                    words: [0; 16],
+                };
+                Planned { plan, refusal: 11 }
+            }
+        }
+    }
 }
 
-fn no_plan() -> Planned
-    ensures { result ≡ no_plan }
-{
-    let plan = Plan {
-        clock: 0,
-        spcr0: 0,
-        spcr1: 0,
-        spcr2: 0,
-        count: 0,
-        first: 0,
-        last: 0,
-        commands: [0u8; 16],
-        words: [0u16; 16],
-    };
-    Planned { plan, refusal: 11 }
-}
-
-fn if_accepted(points: SetPoints, window: u64, plan: Plan) -> Planned
+#[tactic(auto, unfolding(crate::specs::Quickest::if_accepted))]
+fn if_accepted(points: SetPoints, window: u64, plan: Plan) -> Option<Plan>
     ensures { result ≡ if_accepted points window plan }
 {
     if accepts(points, window, plan) {
-        return Planned { plan, refusal: 0 };
+        Some(plan)
+    } else {
+        None
     }
-    no_plan()
 }
 
-// A plan for set-points in a window, the quickest there is, or refusal 11.
+// A plan for set-points in a window, the quickest there is, or none.
 // Ruled out: a plan that isn't accepted; a refusal where some plan is; a slower plan than there is.
-pub fn plan(points: SetPoints, window: u64) -> Planned
+#[tactic(auto, using(crate::proofs::Outcome::improper))]
+pub fn plan(points: SetPoints, window: u64) -> Option<Plan>
     ensures { result ≡ planned points window }
 {
-    if !proper(points) {
-        return no_plan();
-    }
-    if_accepted(points, window, proposal(points))
+    if_accepted(points, window, proper(points)?.proposal())
 }
 
-fn changed(plan: Plan, spcr0: u16, spcr1: u16) -> Plan
-    requires { (1 ≤ plan.count) × (plan.count ≤ 16) }
-    ensures { result ≡ changed plan spcr0 spcr1 }
+// A plan with other registers, as a converter may want them: its clock worked out anew and the checker asked, or none.
+// Ruled out: the old clock kept; a plan given that isn't accepted.
+#[tactic(auto, using(crate::proofs::Outcome::improper, crate::proofs::Outcome::miscounted), unfolding(crate::specs::Quickest::changed))]
+pub fn revise(points: SetPoints, window: u64, plan: Plan, spcr0: u16, spcr1: u16) -> Option<Plan>
+    ensures { result ≡ revised points window plan spcr0 spcr1 }
 {
+    let proper = proper(points)?;
+    if plan.count != points.count {
+        return None;
+    }
     let mut other = plan;
     other.clock = 0;
     other.spcr0 = spcr0;
     other.spcr1 = spcr1;
-    let clock = last_edge(other, plan.count as usize - 1);
-    other.clock = clock;
-    other
-}
-
-// A plan with other registers, as a converter may want them: its clock worked out anew and the checker asked, or refusal 11.
-// Ruled out: the old clock kept; a plan given that isn't accepted.
-pub fn revise(points: SetPoints, window: u64, plan: Plan, spcr0: u16, spcr1: u16) -> Planned
-    ensures { result ≡ revised points window plan spcr0 spcr1 }
-{
-    if !proper(points) {
-        return no_plan();
-    }
-    if plan.count != points.count {
-        return no_plan();
-    }
-    if_accepted(points, window, changed(plan, spcr0, spcr1))
+    other.clock = proper.last_edge(other);
+    if_accepted(points, window, other)
 }

@@ -15,7 +15,7 @@ fn told(from: Probe, to: Probe, refusal: u8) -> Outcome
 {
     let before = from.view();
     let after = to.view();
-    if (before == after) & (refusal == 0) {
+    if before == after && refusal == 0 {
         return Outcome::Nothing;
     }
     Outcome::Drawn(Step {
@@ -60,6 +60,7 @@ impl Waves {
     }
 
     // An event whose record ends at a place; of a hold, its levels.
+    #[tactic(auto, unfolding(crate::specs::Turn::event_on))]
     fn event_on(self, at: usize, e: Event) -> Turned
         ensures { result ≡ event_on self at e }
     {

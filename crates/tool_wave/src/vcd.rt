@@ -101,7 +101,7 @@ fn value(line: Line, id: u8, a: u8, b: u8) -> Line
     if a == b {
         return line;
     }
-    line.put(b).put(id).put(10)
+    line.put(b).put(id).put(b'\n')
 }
 
 // n lines, named from id on, where they differ.
@@ -112,14 +112,10 @@ fn values(start: Line, n: u8, id: u8, v: Bits, w: Bits) -> Line
     let mut line = start;
     let mut a = v;
     let mut b = w;
-    let mut left = n;
-    let mut name = id;
-    while 0 < left {
+    for name in id..id + n {
         line = value(line, name, a.sign(), b.sign());
         a = a.halved();
         b = b.halved();
-        name += 1;
-        left -= 1;
     }
     line
 }
@@ -127,7 +123,7 @@ fn values(start: Line, n: u8, id: u8, v: Bits, w: Bits) -> Line
 fn digit(n: u64) -> u8
     ensures { result ≡ decimal_digit n }
 {
-    48 + (n % 10) as u8
+    b'0' + (n % 10) as u8
 }
 
 // The last nine digits.
@@ -161,7 +157,7 @@ fn time(line: Line, hz: u32, n: u64) -> Line
     ensures { result ≡ puts line (decimal 29 (time hz n)) }
 {
     if hz == 0 {
-        return line.put(48);
+        return line.put(b'0');
     }
     let h = hz as u64;
     whole(line, n / h, n % h * BILLION / h)
@@ -173,7 +169,7 @@ fn refused(line: Line, why: u8) -> Line
     if why == 0 {
         return line;
     }
-    line.put(b'1').put(48 + why % 10).put(10)
+    line.put(b'1').put(b'0' + why % 10).put(b'\n')
 }
 
 // The time of a clock since the start.
@@ -181,7 +177,7 @@ fn refused(line: Line, why: u8) -> Line
 pub fn time_text(hz: u32, n: u64) -> Line
     ensures { Shows result (time_text hz n) }
 {
-    time(Line::empty().put(b'#'), hz, n).put(10)
+    time(Line::empty().put(b'#'), hz, n).put(b'\n')
 }
 
 fn given(line: Line, v: View, w: View) -> Line

@@ -6,9 +6,6 @@ use Rattle.tool_lines.specs.Call.{turn}
 use Rattle.tool_lines.proofs.Turns.{rest, fits_in}
 use Rattle.tool_lines.proofs.Lines.turn.Goals as goal
 
-pub event_or_stop-requires : goal.event_or_stop-requires
-event_or_stop-requires c = (c.requires, omega arith)
-
 pub returns-then-self-ne0 : goal.returns-then-self-ne0
 unfolding turn
 returns-then-self-ne0 c =
@@ -23,7 +20,7 @@ pub record_on-requires : goal.record_on-requires
 record_on-requires c =
     let args = c.args in
     let here = c.parse-p.ensures ∙ ap parsed (rest args.trace.now args.self.at) in
-    (c.requires, fits_in args.trace.now args.self.at c.parse-p.result here (omega arith) (omega arith))
+    fits_in args.trace.now args.self.at c.parse-p.result here (omega arith) (omega arith)
 
 pub returns : goal.returns
 unfolding turn

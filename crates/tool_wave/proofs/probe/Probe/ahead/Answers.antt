@@ -2,9 +2,6 @@ use borrow.Author.Tests.{ne_eqb}
 use Rattle.qsm.specs.model.Event.{does}
 use Rattle.tool_wave.proofs.probe.Probe.ahead.Goals as goal
 
-pub returns-then-n-eq0 : goal.returns-then-n-eq0
-returns-then-n-eq0 c = rw c.if-n-eq0.true
-
 pub returns : goal.returns
 unfolding does
 returns c =

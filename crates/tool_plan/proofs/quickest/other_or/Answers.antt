@@ -1,8 +1,0 @@
-use borrow.Author.Tests.{ne_eqb}
-use Rattle.tool_plan.proofs.quickest.other_or.Goals as goal
-
-pub returns-then-bits-eq8 : goal.returns-then-bits-eq8
-returns-then-bits-eq8 c = rw c.if-bits-eq8.true
-
-pub returns-else-bits-eq8 : goal.returns-else-bits-eq8
-returns-else-bits-eq8 c = rw (ne_eqb _ 8 c.if-bits-eq8.false)
