@@ -36,9 +36,6 @@ rest t i = take_all (length t - i) (drop i t) (simp length-drop (omega arith))
 pub part_length : (t : List ℕ) (i : ℕ) → length (take (length t - i) (drop i t)) ≡ length t - i
 part_length t i = rw rest (length-drop i t)
 
-pub byte_none : (t : List ℕ) (i : ℕ) → length t ≤ i → get_or t i 0 ≡ 0
-byte_none t i h = get_or-eq_default t 0 h
-
 pub blanks_at : (t : List ℕ) (i : ℕ) → i < length t →
     blanks_from i (drop i t) ≡ cond (is_blank (get_or t i 0)) (blanks_from (i + 1) (drop (i + 1) t)) i
 unfolding blanks_from
@@ -47,12 +44,6 @@ blanks_at t i h = rw (add-one, drop-cons t i 0 h)
 pub blanks_end : (i : ℕ) → blanks_from i [] ≡ i
 unfolding blanks_from
 blanks_end i = refl
-
-pub product_fits : (n base : ℕ) → n < 4294967296 → base < 17 → n * base ≤ 68719476736
-product_fits n base small few =
-    let low : n ≤ 4294967296 = omega arith in
-    let high : base ≤ 16 = omega arith in
-    mul-le-mul low high
 
 both : (p q : Bool) → cond p q false ≡ true → q ≡ true
 both true q h = h
@@ -158,22 +149,6 @@ unfolding quoted
 quoted_at zero at t h = absurd (omega arith)
 quoted_at (suc more) at t h = let less : suc more - 1 ≡ more = omega arith in rw less
 
--- ---- the bits of a frame
-
-stop : (j : ℕ) → get_or (true ∷ []) j true ≡ true
-stop zero = refl
-stop (suc j) = refl
-
-pub level_stop : (b i : ℕ) → 9 ≤ i → level b i ≡ true
-level_stop b i h =
-    let split : i ≡ 9 + (i - 9) = omega arith in
-    rw (split, ← get_or-drop 9 (frame b) (i - 9) true) (stop (i - 9))
-
-pub edge_fits : (k clock : ℕ) → k ≤ 4294967296 → clock < 4294967296 → k * clock ≤ 18446744069414584320
-edge_fits k clock few small =
-    let high : clock ≤ 4294967295 = omega arith in
-    mul-le-mul few high
-
 -- ---- names
 
 pub names_fit : (width offset : ℕ) → length (registers width offset) ≤ room
@@ -197,6 +172,3 @@ module _ (l : Line) (t : List ℕ) (shows : Shows l t) where
 
   pub shown_within : l.length ≤ length l.bytes
   shown_within = rw shows.line (simp length-append (omega arith))
-
-  pub shown_count : l.length ≡ length (take l.length l.bytes)
-  shown_count = shown_length ∙ sym (ap (λ (u : List ℕ). length u) shown_take)
