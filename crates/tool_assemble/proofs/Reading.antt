@@ -1,14 +1,13 @@
 -- The definitions of reading, one byte further on. Assumes nothing.
-use mathlib.Core.Path.{◌≡◌, refl, sym, ap, ◌∙◌}
+use mathlib.Core.Path.{◌≡◌, refl}
 use mathlib.Core.Bool.{Bool, true, false, cond, ◌&&◌}
 use mathlib.Core.List.{List, [], ◌∷◌}
 use Prim.Native.Nat.{ℕ, zero, suc, ◌+◌, ◌-◌, ◌*◌, ◌≤◌, ◌<◌}
-use native.Mathlib.Nat.{mul-le-mul}
 use native.Mathlib.Numerals.{add-one}
 use native.Mathlib.Omega.{arith}
 use lib.Dec.{eqb, ltb}
-use lib.ListN.{length, take, drop, get_or, length-append, length-drop, get_or-eq_default}
-use lib.Seq.{drop-cons, drop-length, take_all, take-append_seam, get_or-drop}
+use lib.ListN.{length, take, drop, get_or, length-append, length-drop}
+use lib.Seq.{drop-cons, drop-length, take_all, take-append_seam}
 use borrow.Author.Tests.{ltb-true}
 use Rattle.std.specs.Prelude.{None, Ok}
 use Rattle.std.specs.List.{starts_with}
@@ -23,7 +22,7 @@ use Rattle.qsm.specs.declared.event.Event.TheVariants as events
 use Rattle.tool_assemble.specs.declared.names.Offset.TheVariants.{Nowhere}
 use Rattle.tool_assemble.specs.Names.{stops, name_from, begins, at_offset, joined, sought}
 use Rattle.tool_assemble.specs.Item.{colon, fronted_from}
-use Rattle.tool_assemble.specs.Sent.{character, quoted, frame, level}
+use Rattle.tool_assemble.specs.Sent.{character, quoted_on, quoted}
 use Rattle.tool_assemble.specs.declared.scan.Numbers.{Numbers}
 
 pub end : (t : List ℕ) (i : ℕ) → length t ≤ i → i ≤ length t → drop i t ≡ []
@@ -143,8 +142,7 @@ unfolding quoted
 quoted_none at t = refl
 
 pub quoted_at : (more at : ℕ) (t : List ℕ) → 0 < more →
-    quoted more at t
-    ≡ cond (eqb (character (drop at t)).length 0) at (quoted (more - 1) (at + (character (drop at t)).length) t)
+    quoted more at t ≡ quoted_on (character (drop at t)) at (λ n. quoted (more - 1) n t)
 unfolding quoted
 quoted_at zero at t h = absurd (omega arith)
 quoted_at (suc more) at t h = let less : suc more - 1 ≡ more = omega arith in rw less
