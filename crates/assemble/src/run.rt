@@ -59,10 +59,9 @@ fn send_byte(to: &Sink, s: Sent, byte: u8, k: u32) -> Result<(), Stop>
 fn send(to: &Sink, s: Sent, line: &[u8]) -> Result<u64, Stop> {
     let mut at = line.len().saturating_sub(s.start);
     for k in 0..1024u32 {
-        let c = first(&line[at..]);
-        if c.length == 0 {
+        let Some(c) = first(&line[at..]) else {
             return Ok(k as u64 * 10);
-        }
+        };
         send_byte(to, s, c.byte, k * 10)?;
         at += c.length;
     }

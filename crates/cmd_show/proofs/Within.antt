@@ -15,8 +15,10 @@ use Rattle.trace.specs.declared.Parsed.TheVariants.{Record, Unknown, Cut}
 use Rattle.trace.proofs.Playing.{record_within}
 use Rattle.text.specs.Answer.{unnamed}
 use Rattle.text.specs.Log.{logged_at, foreign_kind, other_kind, entry}
-use Rattle.text.specs.declared.log.Entry.{Entry}
-use Rattle.text.specs.declared.log.Entry.TheVariants as log
+use Rattle.std.specs.Prelude.{Result, Ok, Err}
+use Rattle.text.specs.declared.log.Logged.{Logged}
+use Rattle.text.specs.declared.message.Fault.{Fault}
+use Rattle.text.specs.declared.message.Fault.TheVariants as fault
 use Rattle.cmd_show.specs.Item.{answer_item, record_item, item}
 use Rattle.cmd_show.specs.declared.item.What.{What}
 use Rattle.cmd_show.specs.declared.item.What.TheVariants as what
@@ -36,7 +38,7 @@ some : (t : Bool) → 0 < cond t 18 10
 some true = omega arith
 some false = omega arith
 
-abbrev Answered : List ℕ → Entry → Type 0
+abbrev Answered : List ℕ → Result Logged Fault → Type 0
 Answered t e = Fits t (answer_item 0 e).what (answer_item 0 e).size
 
 answered : (kind : ℕ) (t : List ℕ) → Answered t (entry kind t)
@@ -50,13 +52,14 @@ answered kind t =
     rw long (some (eqb (byte_at t 0) clocked), ltb-false (length t) (length_of (byte_at t 0)) long)))))))
 
 -- The line doesn't matter.
-by_entry : (n : ℕ) (t : List ℕ) (e : Entry) → Answered t e → Fits t (answer_item n e).what (answer_item n e).size
-by_entry n t (log.Whole l) h = h
-by_entry n t log.NoAnswer h = tt
-by_entry n t log.OtherKind h = tt
-by_entry n t log.NoRefusal h = tt
-by_entry n t log.NotDriven h = tt
-by_entry n t log.Cut h = tt
+by_entry : (n : ℕ) (t : List ℕ) (e : Result Logged Fault) → Answered t e → Fits t (answer_item n e).what (answer_item n e).size
+by_entry n t (Ok l) h = h
+by_entry n t (Err fault.NoAnswer) h = tt
+by_entry n t (Err fault.OtherKind) h = tt
+by_entry n t (Err fault.NoRefusal) h = tt
+by_entry n t (Err fault.NotDriven) h = tt
+by_entry n t (Err fault.NoRecord) h = tt
+by_entry n t (Err fault.Cut) h = tt
 
 by_record : (n kind : ℕ) (t : List ℕ) (p : Parsed) → parsed t ≡ p → Fits t (record_item n kind p).what (record_item n kind p).size
 by_record n kind t (Record e size) is = record_within t is

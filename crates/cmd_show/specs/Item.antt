@@ -1,5 +1,5 @@
 -- What stands at the start of a rest of a log or a trace.
-use Rattle.std.specs.Prelude.{Bool, true, false, List, ℕ}
+use Rattle.std.specs.Prelude.{Bool, true, false, Result, Ok, Err, List, ℕ}
 use Rattle.trace.specs.Trace.{byte_at, parsed}
 use Rattle.trace.specs.declared.Parsed.{Parsed}
 use Rattle.trace.specs.declared.Parsed.TheVariants.{Record, Unknown, Cut}
@@ -8,9 +8,10 @@ use Rattle.text.specs.Answer.{answer_line}
 use Rattle.text.specs.Record.{record_line}
 use Rattle.answers.specs.Answer.{length_of}
 use Rattle.text.specs.Log.{entry}
-use Rattle.text.specs.declared.log.Entry.{Entry}
-use Rattle.text.specs.declared.log.Entry.TheVariants as log
-use Rattle.text.specs.declared.message.Fault.TheVariants.{NoAnswer, OtherKind, NoRefusal, NotDriven, NoRecord}
+use Rattle.text.specs.declared.log.Logged.{Logged}
+use Rattle.text.specs.declared.message.Fault.{Fault}
+use Rattle.text.specs.declared.message.Fault.TheVariants.{NoRecord}
+use Rattle.text.specs.declared.message.Fault.TheVariants as fault
 use Rattle.cmd_show.specs.declared.item.Item.{Item}
 use Rattle.cmd_show.specs.declared.item.What.{What}
 use Rattle.cmd_show.specs.declared.item.What.TheVariants.{Shown, More, Bad}
@@ -19,13 +20,10 @@ abbrev pub no_line : What → Item
 no_line what = record { what = what; line = empty; size = 0 }
 
 -- By its number, an answer has its line.
-abbrev pub answer_item : ℕ → Entry → Item
-answer_item n (log.Whole l) = record { what = Shown; line = line_of (answer_line n l); size = length_of l.kind }
-answer_item n log.NoAnswer = no_line (Bad NoAnswer)
-answer_item n log.OtherKind = no_line (Bad OtherKind)
-answer_item n log.NoRefusal = no_line (Bad NoRefusal)
-answer_item n log.NotDriven = no_line (Bad NotDriven)
-answer_item n log.Cut = no_line More
+abbrev pub answer_item : ℕ → Result Logged Fault → Item
+answer_item n (Ok l) = record { what = Shown; line = line_of (answer_line n l); size = length_of l.kind }
+answer_item n (Err fault.Cut) = no_line More
+answer_item n (Err f) = no_line (Bad f)
 
 -- By its number and kind, a record has its line.
 abbrev pub record_item : ℕ → ℕ → Parsed → Item

@@ -6,7 +6,6 @@ ghost use Rattle.text.specs.Line.{empty};
 ghost use Rattle.cmd_show.specs.Item.{answer_item, record_item, item};
 
 use text::line::Line;
-use text::log::Entry;
 use text::message::Fault;
 use trace::Parsed;
 
@@ -39,18 +38,14 @@ fn no_line(what: What) -> Item
 fn answer_item(kind: u8, number: u64, bytes: &[u8]) -> Item
     ensures { result ≡ answer_item number (entry kind bytes.now) }
 {
-    let e = text::log::parse_answer(kind, bytes);
-    match e {
-        Entry::Whole(l) => Item {
+    match text::log::parse_answer(kind, bytes) {
+        Ok(l) => Item {
             what: What::Shown,
             line: text::answer::answer_line(number, l),
             size: answers::length_of(l.kind),
         },
-        Entry::NoAnswer => no_line(What::Bad(Fault::NoAnswer)),
-        Entry::OtherKind => no_line(What::Bad(Fault::OtherKind)),
-        Entry::NoRefusal => no_line(What::Bad(Fault::NoRefusal)),
-        Entry::NotDriven => no_line(What::Bad(Fault::NotDriven)),
-        Entry::Cut => no_line(What::More),
+        Err(Fault::Cut) => no_line(What::More),
+        Err(fault) => no_line(What::Bad(fault)),
     }
 }
 

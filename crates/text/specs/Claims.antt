@@ -1,5 +1,5 @@
 -- What is shown of the texts: decimal digits give the number back, to a reader and to the code, and an answer's bytes in a log give the answer back.
-use Rattle.std.specs.Prelude.{◌≡◌, ◌⊎◌, false, Some, List, [], ◌∷◌, ◌++◌, ℕ, ◌+◌, ◌-◌, ◌*◌, ◌<◌, ◌^◌}
+use Rattle.std.specs.Prelude.{◌≡◌, ◌⊎◌, false, Some, Ok, Err, List, [], ◌∷◌, ◌++◌, ℕ, ◌+◌, ◌-◌, ◌*◌, ◌<◌, ◌^◌}
 use Rattle.std.specs.Int.Bits.{bit_and}
 use Rattle.qsm.specs.declared.event.Answer.{Answer}
 use Rattle.answers.specs.Answer.{plain, clocked}
@@ -8,7 +8,7 @@ use Rattle.text.specs.Digits.{decimal}
 use Rattle.text.specs.Number.{number_of}
 use Rattle.text.specs.Answer.{unnamed}
 use Rattle.text.specs.Log.{entry}
-use Rattle.text.specs.declared.log.Entry.TheVariants.{Whole, OtherKind}
+use Rattle.text.specs.declared.message.Fault.TheVariants.{OtherKind}
 
 -- The number of decimal digits behind those of n.
 unfoldable pub valued : ℕ → List ℕ → ℕ
@@ -38,19 +38,19 @@ Behind kind before = (before ≡ 0) ⊎ (before ≡ kind)
 abbrev pub BytesGiveBack : Type 0
 BytesGiveBack =
     (before : ℕ) (a : Answer) (t : List ℕ) → Behind clocked before → Given a →
-    entry before (answer_bytes a ++ t) ≡ Whole (record { kind = clocked; answer = a })
+    entry before (answer_bytes a ++ t) ≡ Ok (record { kind = clocked; answer = a })
 
 -- So is an answer of kind 10, without a clock.
 abbrev pub PlainGiveBack : Type 0
 PlainGiveBack =
     (before : ℕ) (a : Answer) (t : List ℕ) → Behind plain before → Given a → a.clock ≡ 0 →
-    entry before ((plain ∷ answer_body a) ++ t) ≡ Whole (record { kind = plain; answer = a })
+    entry before ((plain ∷ answer_body a) ++ t) ≡ Ok (record { kind = plain; answer = a })
 
 -- Neither is read behind answers of the other kind.
 abbrev pub KindsApart : Type 0
 KindsApart =
     (a : Answer) (t : List ℕ) →
-    (entry plain (answer_bytes a ++ t) ≡ OtherKind) × (entry clocked ((plain ∷ answer_body a) ++ t) ≡ OtherKind)
+    (entry plain (answer_bytes a ++ t) ≡ Err OtherKind) × (entry clocked ((plain ∷ answer_body a) ++ t) ≡ Err OtherKind)
 
 pub record Claims : Type 0 where
   pub digits : DigitsGiveBack

@@ -49,14 +49,13 @@ impl Line {
     }
 
     // Ruled out: the first byte alone; the bytes in reverse.
+    #[tactic(auto, using(crate::proofs::Puts::puts_none, crate::proofs::Puts::puts_more))]
     pub fn write(self, text: &[u8]) -> Line
         ensures { result ≡ puts self text.now }
     {
         let mut line = self;
-        let mut i = 0;
-        while i < text.len() {
-            line = line.put(text[i]);
-            i += 1;
+        for b in text {
+            line = line.put(*b);
         }
         line
     }

@@ -1,10 +1,11 @@
 // The answer at the start of a rest of a log of either kind.
 ghost use Rattle.std.specs.Prelude.{◌≡◌, ◌≤◌, ◌+◌, length};
 ghost use Rattle.answers.specs.Answer.{length_of};
-ghost use Rattle.trace.specs.Trace.{word_at, long, long_at};
+ghost use Rattle.trace.specs.Trace.{long_at};
 ghost use Rattle.text.specs.Log.{wide, clock_at, nothing, logged_at, tested, foreign_kind, other_kind, entry};
 
 use crate::answer::unnamed;
+use crate::message::Fault;
 use answers::{
     CLOCK, CLOCKED, KIND, LEVEL, LEVELS, MASK, PLAIN_LENGTH, REFUSAL, VALUE, VECTOR, known_kind,
     length_of,
@@ -14,18 +15,6 @@ use qsm::event::Answer;
 // The lower four bytes of the clock.
 const CLOCK_LOW: usize = CLOCK + 4;
 
-// An answer, or what is wrong: its first byte is neither 10 nor 11, or not that of the answers before it, its refusal is none that an answer has, a pin that
-// is not driven has a level, or the end of the log cuts it.
-#[derive(Clone, Copy)]
-pub enum Entry {
-    Whole(Logged),
-    NoAnswer,
-    OtherKind,
-    NoRefusal,
-    NotDriven,
-    Cut,
-}
-
 // The bytes of an answer in a log, whether the model can have given it or not.
 #[derive(Clone, Copy)]
 pub struct Logged {
@@ -33,24 +22,11 @@ pub struct Logged {
     pub answer: Answer,
 }
 
-fn word_at(rest: &[u8], at: usize) -> u16
-    requires { at + 2 ≤ length rest.now }
-    ensures { result ≡ word_at rest.now at }
-{
-    steps::word(rest[at], rest[at + 1])
-}
-
-fn long(high: u16, low: u16) -> u32
-    ensures { result ≡ long high low }
-{
-    (high as u32) * 65536 + (low as u32)
-}
-
 fn long_at(rest: &[u8], at: usize) -> u32
     requires { at + 4 ≤ length rest.now }
     ensures { result ≡ long_at rest.now at }
 {
-    long(word_at(rest, at), word_at(rest, at + 2))
+    u32::from_be_bytes([rest[at], rest[at + 1], rest[at + 2], rest[at + 3]])
 }
 
 fn wide(high: u32, low: u32) -> u64
@@ -111,17 +87,17 @@ pub fn logged_at(rest: &[u8]) -> Logged
 }
 
 // The answer, unless something is wrong with it.
-fn tested(l: Logged) -> Entry
+fn tested(l: Logged) -> Result<Logged, Fault>
     ensures { result ≡ tested l }
 {
     let a = l.answer;
     if unnamed(a.refusal) {
-        return Entry::NoRefusal;
+        return Err(Fault::NoRefusal);
     }
     if (a.levels & a.mask) != a.levels {
-        return Entry::NotDriven;
+        return Err(Fault::NotDriven);
     }
-    Entry::Whole(l)
+    Ok(l)
 }
 
 // Ruled out: 10 alone; 11 alone.
@@ -134,26 +110,27 @@ pub fn foreign_kind(first: u8) -> bool
 fn other_kind(kind: u8, first: u8) -> bool
     ensures { result ≡ other_kind kind first }
 {
-    !(kind == 0) & !(kind == first)
+    kind != 0 && kind != first
 }
 
-// The answers before it are of the kind given, or there are none and it is 0.
+// An answer, or what is wrong: its first byte is neither 10 nor 11, or not that of the answers before it, its refusal is none that an answer has, a pin that
+// is not driven has a level, or the end of the log cuts it. The answers before it are of the kind given, or there are none and it is 0.
 // Ruled out: a refusal that no answer has taken; an answer of another kind than those before it; a first byte of no kind that waits for more.
-pub fn parse_answer(kind: u8, rest: &[u8]) -> Entry
+pub fn parse_answer(kind: u8, rest: &[u8]) -> Result<Logged, Fault>
     ensures { result ≡ entry kind rest.now }
 {
-    if rest.len() == 0 {
-        return Entry::Cut;
+    if rest.is_empty() {
+        return Err(Fault::Cut);
     }
     let first = rest[KIND];
     if foreign_kind(first) {
-        return Entry::NoAnswer;
+        return Err(Fault::NoAnswer);
     }
     if other_kind(kind, first) {
-        return Entry::OtherKind;
+        return Err(Fault::OtherKind);
     }
     if rest.len() < length_of(first) {
-        return Entry::Cut;
+        return Err(Fault::Cut);
     }
     tested(logged_at(rest))
 }

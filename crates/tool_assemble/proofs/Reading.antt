@@ -1,14 +1,13 @@
 -- The definitions of reading, one byte further on. Assumes nothing.
-use mathlib.Core.Path.{◌≡◌, refl, sym, ap, ◌∙◌}
+use mathlib.Core.Path.{◌≡◌, refl}
 use mathlib.Core.Bool.{Bool, true, false, cond, ◌&&◌}
 use mathlib.Core.List.{List, [], ◌∷◌}
 use Prim.Native.Nat.{ℕ, zero, suc, ◌+◌, ◌-◌, ◌*◌, ◌≤◌, ◌<◌}
-use native.Mathlib.Nat.{mul-le-mul}
 use native.Mathlib.Numerals.{add-one}
 use native.Mathlib.Omega.{arith}
 use lib.Dec.{eqb, ltb}
-use lib.ListN.{length, take, drop, get_or, length-append, length-drop, get_or-eq_default}
-use lib.Seq.{drop-cons, drop-length, take_all, take-append_seam, get_or-drop}
+use lib.ListN.{length, take, drop, get_or, length-append, length-drop}
+use lib.Seq.{drop-cons, drop-length, take_all, take-append_seam}
 use borrow.Author.Tests.{ltb-true}
 use Rattle.std.specs.Prelude.{None, Ok}
 use Rattle.std.specs.List.{starts_with}
@@ -23,7 +22,7 @@ use Rattle.qsm.specs.declared.event.Event.TheVariants as events
 use Rattle.tool_assemble.specs.declared.names.Offset.TheVariants.{Nowhere}
 use Rattle.tool_assemble.specs.Names.{stops, name_from, begins, at_offset, joined, sought}
 use Rattle.tool_assemble.specs.Item.{colon, fronted_from}
-use Rattle.tool_assemble.specs.Sent.{character, quoted, frame, level}
+use Rattle.tool_assemble.specs.Sent.{character, quoted_on, quoted}
 use Rattle.tool_assemble.specs.declared.scan.Numbers.{Numbers}
 
 pub end : (t : List ℕ) (i : ℕ) → length t ≤ i → i ≤ length t → drop i t ≡ []
@@ -36,9 +35,6 @@ rest t i = take_all (length t - i) (drop i t) (simp length-drop (omega arith))
 pub part_length : (t : List ℕ) (i : ℕ) → length (take (length t - i) (drop i t)) ≡ length t - i
 part_length t i = rw rest (length-drop i t)
 
-pub byte_none : (t : List ℕ) (i : ℕ) → length t ≤ i → get_or t i 0 ≡ 0
-byte_none t i h = get_or-eq_default t 0 h
-
 pub blanks_at : (t : List ℕ) (i : ℕ) → i < length t →
     blanks_from i (drop i t) ≡ cond (is_blank (get_or t i 0)) (blanks_from (i + 1) (drop (i + 1) t)) i
 unfolding blanks_from
@@ -47,12 +43,6 @@ blanks_at t i h = rw (add-one, drop-cons t i 0 h)
 pub blanks_end : (i : ℕ) → blanks_from i [] ≡ i
 unfolding blanks_from
 blanks_end i = refl
-
-pub product_fits : (n base : ℕ) → n < 4294967296 → base < 17 → n * base ≤ 68719476736
-product_fits n base small few =
-    let low : n ≤ 4294967296 = omega arith in
-    let high : base ≤ 16 = omega arith in
-    mul-le-mul low high
 
 both : (p q : Bool) → cond p q false ≡ true → q ≡ true
 both true q h = h
@@ -152,27 +142,10 @@ unfolding quoted
 quoted_none at t = refl
 
 pub quoted_at : (more at : ℕ) (t : List ℕ) → 0 < more →
-    quoted more at t
-    ≡ cond (eqb (character (drop at t)).length 0) at (quoted (more - 1) (at + (character (drop at t)).length) t)
+    quoted more at t ≡ quoted_on (character (drop at t)) at (λ n. quoted (more - 1) n t)
 unfolding quoted
 quoted_at zero at t h = absurd (omega arith)
 quoted_at (suc more) at t h = let less : suc more - 1 ≡ more = omega arith in rw less
-
--- ---- the bits of a frame
-
-stop : (j : ℕ) → get_or (true ∷ []) j true ≡ true
-stop zero = refl
-stop (suc j) = refl
-
-pub level_stop : (b i : ℕ) → 9 ≤ i → level b i ≡ true
-level_stop b i h =
-    let split : i ≡ 9 + (i - 9) = omega arith in
-    rw (split, ← get_or-drop 9 (frame b) (i - 9) true) (stop (i - 9))
-
-pub edge_fits : (k clock : ℕ) → k ≤ 4294967296 → clock < 4294967296 → k * clock ≤ 18446744069414584320
-edge_fits k clock few small =
-    let high : clock ≤ 4294967295 = omega arith in
-    mul-le-mul few high
 
 -- ---- names
 
@@ -197,6 +170,3 @@ module _ (l : Line) (t : List ℕ) (shows : Shows l t) where
 
   pub shown_within : l.length ≤ length l.bytes
   shown_within = rw shows.line (simp length-append (omega arith))
-
-  pub shown_count : l.length ≡ length (take l.length l.bytes)
-  shown_count = shown_length ∙ sym (ap (λ (u : List ℕ). length u) shown_take)

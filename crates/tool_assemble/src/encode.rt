@@ -1,10 +1,9 @@
 // A record's bytes, from its kind and its event.
-ghost use Rattle.std.specs.Prelude.{◌≡◌, ◌/◌, ◌%◌};
+ghost use Rattle.std.specs.Prelude.{◌≡◌};
 ghost use Rattle.steps.specs.Bits.{digit};
 ghost use Rattle.tool_assemble.specs.Encode.{width_byte, padded, hold_bytes, long_hold_bytes, read_bytes, write_bytes, access_bytes, record_bytes};
 
 use qsm::event::{Access, Event};
-use steps::{lower_byte, upper_byte};
 
 // The bytes of a record, with zeros behind them.
 #[derive(Clone, Copy)]
@@ -26,46 +25,26 @@ fn width_byte(supervisor: bool, width: u8) -> u8
 fn rxd_byte(rxd: bool) -> u8
     ensures { result ≡ digit rxd }
 {
-    if rxd { 1 } else { 0 }
-}
-
-fn upper_word(n: u32) -> u16
-    ensures { result ≡ n / 65536 % 65536 }
-{
-    (n / 65536 % 65536) as u16
-}
-
-fn lower_word(n: u32) -> u16
-    ensures { result ≡ n % 65536 }
-{
-    (n % 65536) as u16
+    rxd as u8
 }
 
 fn hold(pins: u8, rxd: bool, clocks: u32) -> Encoded
     ensures { result ≡ padded (hold_bytes pins rxd clocks) }
 {
-    let n = lower_word(clocks);
-    let level = rxd_byte(rxd);
-    let high = upper_byte(n);
-    let low = lower_byte(n);
+    let [high, low] = ((clocks % 65536) as u16).to_be_bytes();
     Encoded {
-        bytes: [2, pins, level, high, low, 0, 0, 0],
+        bytes: [2, pins, rxd_byte(rxd), high, low, 0, 0, 0],
         length: 5,
     }
 }
 
+#[tactic(auto, using(crate::proofs::Encoding::long_is))]
 fn long_hold(pins: u8, rxd: bool, clocks: u32) -> Encoded
     ensures { result ≡ padded (long_hold_bytes pins rxd clocks) }
 {
-    let m = upper_word(clocks);
-    let n = lower_word(clocks);
-    let level = rxd_byte(rxd);
-    let a = upper_byte(m);
-    let b = lower_byte(m);
-    let c = upper_byte(n);
-    let d = lower_byte(n);
+    let [a, b, c, d] = clocks.to_be_bytes();
     Encoded {
-        bytes: [5, pins, level, a, b, c, d, 0],
+        bytes: [5, pins, rxd_byte(rxd), a, b, c, d, 0],
         length: 7,
     }
 }
@@ -73,29 +52,21 @@ fn long_hold(pins: u8, rxd: bool, clocks: u32) -> Encoded
 fn read(supervisor: bool, width: u8, offset: u16) -> Encoded
     ensures { result ≡ padded (read_bytes supervisor width offset) }
 {
-    let w = width_byte(supervisor, width);
-    let high = upper_byte(offset);
-    let low = lower_byte(offset);
+    let [high, low] = offset.to_be_bytes();
     Encoded {
-        bytes: [3, w, high, low, 0, 0, 0, 0],
+        bytes: [3, width_byte(supervisor, width), high, low, 0, 0, 0, 0],
         length: 4,
     }
 }
 
+#[tactic(auto, using(crate::proofs::Encoding::long_is))]
 fn write(supervisor: bool, width: u8, offset: u16, value: u32) -> Encoded
     ensures { result ≡ padded (write_bytes supervisor width offset value) }
 {
-    let w = width_byte(supervisor, width);
-    let high = upper_byte(offset);
-    let low = lower_byte(offset);
-    let m = upper_word(value);
-    let n = lower_word(value);
-    let a = upper_byte(m);
-    let b = lower_byte(m);
-    let c = upper_byte(n);
-    let d = lower_byte(n);
+    let [high, low] = offset.to_be_bytes();
+    let [a, b, c, d] = value.to_be_bytes();
     Encoded {
-        bytes: [4, w, high, low, a, b, c, d],
+        bytes: [4, width_byte(supervisor, width), high, low, a, b, c, d],
         length: 8,
     }
 }

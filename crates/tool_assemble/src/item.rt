@@ -80,6 +80,7 @@ fn colon(b: u8, i: usize) -> usize
 }
 
 // The bytes of the number in front of a record and of the colon behind it, 0 if there are none.
+#[tactic(auto, using(crate::proofs::Reading::fronted_end, std::proofs::lemmas::List::drop_all))]
 fn fronted(text: &[u8]) -> usize
     ensures value { result ≡ fronted text.now }
     ensures upper_bound { result ≤ length text.now }

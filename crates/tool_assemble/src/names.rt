@@ -43,6 +43,7 @@ fn stops(text: &[u8]) -> bool
 }
 
 // The bytes of the names that a text begins with.
+#[tactic(auto, using(crate::proofs::Reading::name_at, crate::proofs::Reading::name_end, crate::proofs::Reading::rest, std::proofs::lemmas::List::drop_all))]
 pub(crate) fn name_length(text: &[u8]) -> usize
     ensures value { result ≡ name_length text.now }
     ensures upper_bound { result ≤ length text.now }

@@ -1,5 +1,5 @@
 // A text sent on RXD: 8N1, a hold for each bit.
-ghost use Rattle.std.specs.Prelude.{◌≡◌, ◌≤◌, length};
+ghost use Rattle.std.specs.Prelude.{◌≡◌, ◌≤◌, length, IfSome};
 ghost use Rattle.tool_assemble.specs.Sent.{of, escaped, hex_pair, behind_backslash, spelled, character, quoted, frame, level, edge, bit_clocks, hold_kind_of, bit_hold};
 
 use crate::figures::digit_of;
@@ -15,7 +15,7 @@ pub struct Sent {
     pub pins: u8,
 }
 
-// A character of a quoted text: the bytes that it takes, 0 if there is none, and what it stands for.
+// A character of a quoted text: the bytes that it takes, and what it stands for.
 #[derive(Clone, Copy)]
 pub struct Character {
     pub length: usize,
@@ -29,14 +29,14 @@ pub struct Bit {
     pub event: Event,
 }
 
-fn of(length: usize, byte: u8) -> Character
+fn of(length: usize, byte: u8) -> Option<Character>
     ensures { result ≡ of length byte }
 {
-    Character { length, byte }
+    Some(Character { length, byte })
 }
 
 // \n, \r, \t, \\ and \".
-fn escaped(b: u8) -> Character
+fn escaped(b: u8) -> Option<Character>
     ensures { result ≡ escaped b }
 {
     match b {
@@ -45,21 +45,21 @@ fn escaped(b: u8) -> Character
         b't' => of(2, b'\t'),
         b'\\' => of(2, b'\\'),
         b'"' => of(2, b'"'),
-        _ => of(0, 0),
+        _ => None,
     }
 }
 
 // \x and two hexadecimal digits.
-fn hex_pair(high: u8, low: u8) -> Character
+fn hex_pair(high: u8, low: u8) -> Option<Character>
     ensures { result ≡ hex_pair high low }
 {
     if high > 15 || low > 15 {
-        return of(0, 0);
+        return None;
     }
     of(4, high * 16 + low)
 }
 
-fn behind_backslash(b: u8, c: u8, d: u8) -> Character
+fn behind_backslash(b: u8, c: u8, d: u8) -> Option<Character>
     ensures { result ≡ behind_backslash b c d }
 {
     if b == 120 {
@@ -68,13 +68,13 @@ fn behind_backslash(b: u8, c: u8, d: u8) -> Character
     escaped(b)
 }
 
-// A character by its first four bytes.
+// A character by its first four bytes: none for the closing quote, or for an escape that is not known.
 #[tactic(auto, unfolding(crate::specs::Sent::spelled))]
-fn spelled(a: u8, b: u8, c: u8, d: u8) -> Character
+fn spelled(a: u8, b: u8, c: u8, d: u8) -> Option<Character>
     ensures { result ≡ spelled a b c d }
 {
     if a == 34 {
-        return of(0, 0);
+        return None;
     }
     if a == 92 {
         return behind_backslash(b, c, d);
@@ -85,15 +85,15 @@ fn spelled(a: u8, b: u8, c: u8, d: u8) -> Character
 // The character that the rest of a quoted text begins with.
 // Ruled out: the closing quote sent; an escape that is not known sent as it stands.
 #[tactic(auto, unfolding(crate::specs::Sent::character))]
-pub fn first(text: &[u8]) -> Character
+pub fn first(text: &[u8]) -> Option<Character>
     ensures value { result ≡ character text.now }
-    ensures length_in_bounds { result.length ≤ length text.now }
+    ensures length_in_bounds { IfSome result (λ c. c.length ≤ length text.now) }
 {
-    let c = spelled(byte(text, 0), byte(text, 1), byte(text, 2), byte(text, 3));
+    let c = spelled(byte(text, 0), byte(text, 1), byte(text, 2), byte(text, 3))?;
     if text.len() < c.length {
-        return of(0, 0);
+        return None;
     }
-    c
+    Some(c)
 }
 
 // The bytes of a quoted text.
@@ -103,10 +103,9 @@ pub(crate) fn quoted(text: &[u8]) -> usize
 {
     let mut at = 0;
     for turn in 0..text.len() {
-        let c = first(&text[at..]);
-        if c.length == 0 {
+        let Some(c) = first(&text[at..]) else {
             return at;
-        }
+        };
         at += c.length;
     }
     at

@@ -2,7 +2,7 @@
 #![tactic(auto)]
 
 ghost use Rattle.std.specs.Prelude.{Bool, true, false, cond, ◌≡◌, ◌+◌, ◌-◌, ◌*◌, ◌≤◌, eqb, ltb, leb};
-ghost use Rattle.tool_rates.specs.Rates.{sample_of, apart, deadline_of, own_bit, not_early, not_late, difference, hundredths, tolerance_of};
+ghost use Rattle.tool_rates.specs.Rates.{sample_of, apart, deadline_of, own_bit, not_early, not_late, hundredths, tolerance_of};
 
 // Whether a text at a rate is heard word by word; whether its bits are shorter than the receiver's; and by how many hundredths of a percent they
 // are off, rounded down.
@@ -71,16 +71,6 @@ fn not_late(clock: u32, baud: u32, sccr0: u16, nine: bool) -> bool
     9 * clock as u64 + baud as u64 <= most
 }
 
-fn off(clock: u64, own: u64) -> u64
-    ensures { (result ≡ difference clock own) × (result ≤ clock + own) }
-{
-    if clock < own {
-        own - clock
-    } else {
-        clock - own
-    }
-}
-
 fn error(clock: u32, own: u64) -> u64
     requires { own ≤ 16 * 16382 * 4294967296 }
     ensures { result ≡ hundredths clock own }
@@ -88,8 +78,7 @@ fn error(clock: u32, own: u64) -> u64
     if own == 0 {
         return 0;
     }
-    let d = off(clock as u64, own);
-    d * 10000 / own
+    (clock as u64).abs_diff(own) * 10000 / own
 }
 
 // A sender of a baud rate, from a clock of so many hertz, with each edge rounded to a clock, to a receiver with that SCCR0 and M.

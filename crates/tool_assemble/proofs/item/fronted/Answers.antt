@@ -1,7 +1,6 @@
 use native.Mathlib.Omega.{arith}
-use Rattle.std.proofs.lemmas.List.{drop_all}
 use borrow.Author.Tests.{lt-ltb, le-ltb}
-use Rattle.tool_assemble.proofs.Reading.{fronted_at, fronted_end}
+use Rattle.tool_assemble.proofs.Reading.{fronted_at}
 use Rattle.tool_assemble.proofs.item.fronted.Goals as goal
 
 pub returns-then-digit_of-gt9-clause-value : goal.returns-then-digit_of-gt9-clause-value
@@ -9,6 +8,3 @@ returns-then-digit_of-gt9-clause-value c = rw (c.colon.ensures.value, c.loop-i.i
 
 pub loop-i-preserved : goal.loop-i-preserved
 loop-i-preserved c = rw (c.loop-i.invariant, fronted_at c.args.text.now c.loop-i.i (omega arith), ← c.digit_of.ensures, le-ltb _ _ c.if-digit_of-gt9.false)
-
-pub returns-clause-value : goal.returns-clause-value
-returns-clause-value c = rw (c.loop-i.invariant, drop_all c.loop-i.i c.args.text.now (omega arith), fronted_end)
