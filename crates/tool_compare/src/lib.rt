@@ -82,78 +82,84 @@ fn write(k: usize, bytes: usize, a: &[u8], b: &[u8], n: usize, list: &mut [u64])
     }
 }
 
+// What a comparison gives beside its list: how many answers differ, its refusal or 0, and what the longer log has past the common end.
+#[derive(Clone, Copy)]
+pub struct Report<'a> {
+    pub count: u64,
+    pub refusal: u8,
+    pub rest: &'a [u8],
+}
+
 // Compares two logs of answers that have the first k fields, and so many bytes.
-fn by_fields<'a>(
-    k: usize,
-    bytes: usize,
-    a: &'a [u8],
-    b: &'a [u8],
-    list: &mut [u64],
-    count: &mut u64,
-    refusal: &mut u8,
-) -> &'a [u8]
+fn by_fields<'a>(k: usize, bytes: usize, a: &'a [u8], b: &'a [u8], list: &mut [u64]) -> Report<'a>
     requires { (k ≤ 8) × (bytes ≡ stride (take k fields)) × (0 < bytes) }
-    ensures { Reports (compared (take k fields) a.now b.now list.old) a.entry.ref_ptr b.entry.ref_ptr list.new count.new refusal.new result.now result.ref_ptr }
+    ensures { Reports (compared (take k fields) a.now b.now list.old) a.entry.ref_ptr b.entry.ref_ptr list.new result.count result.refusal result.rest.now result.rest.ref_ptr }
 {
-    *count = 0;
     let start = least(a.len(), b.len());
+    let nothing = Report {
+        count: 0,
+        refusal: 0,
+        rest: &a[start..start],
+    };
     if a.len() % bytes != 0 {
-        *refusal = 6;
-        return &a[start..start];
+        return Report {
+            refusal: 6,
+            ..nothing
+        };
     }
     if b.len() % bytes != 0 {
-        *refusal = 6;
-        return &a[start..start];
+        return Report {
+            refusal: 6,
+            ..nothing
+        };
     }
     let n = least(a.len() / bytes, b.len() / bytes);
     let differ = differences(bytes, a, b, n);
     if list.len() / 2 < differ {
-        *refusal = 7;
-        return &a[start..start];
+        return Report {
+            refusal: 7,
+            ..nothing
+        };
     }
     write(k, bytes, a, b, n, list);
-    *count = differ as u64;
-    *refusal = 0;
+    let count = differ as u64;
     if a.len() < b.len() {
-        return &b[start..];
+        return Report {
+            count,
+            refusal: 0,
+            rest: &b[start..],
+        };
     }
-    &a[start..]
+    Report {
+        count,
+        refusal: 0,
+        rest: &a[start..],
+    }
 }
 
-// Compares two logs whose answers are to be of a kind. Two numbers for each differing answer go to the front of the list, their count and
-// the refusal, or 0, are lent too. What the longer log has past the common end is handed back.
+// Compares two logs whose answers are to be of a kind. Two numbers for each differing answer go to the front of the list. What the
+// longer log has past the common end is handed back beside their count and the refusal, or 0.
 // Ruled out: a differing answer left out; the list written on a refusal; the stretch of the shorter log; 7 for a cut log, 6 for a mixed one.
-pub fn compare_as<'a>(
-    kind: u8,
-    a: &'a [u8],
-    b: &'a [u8],
-    list: &mut [u64],
-    count: &mut u64,
-    refusal: &mut u8,
-) -> &'a [u8]
-    ensures { Reports (compared_as kind a.now b.now list.old) a.entry.ref_ptr b.entry.ref_ptr list.new count.new refusal.new result.now result.ref_ptr }
+pub fn compare_as<'a>(kind: u8, a: &'a [u8], b: &'a [u8], list: &mut [u64]) -> Report<'a>
+    ensures { Reports (compared_as kind a.now b.now list.old) a.entry.ref_ptr b.entry.ref_ptr list.new result.count result.refusal result.rest.now result.rest.ref_ptr }
 {
     if mixed(kind, a) | mixed(kind, b) {
-        *count = 0;
-        *refusal = 5;
         let start = least(a.len(), b.len());
-        return &a[start..start];
+        return Report {
+            count: 0,
+            refusal: 5,
+            rest: &a[start..start],
+        };
     }
-    by_fields(fields_of(kind), stride_of(kind), a, b, list, count, refusal)
+    by_fields(fields_of(kind), stride_of(kind), a, b, list)
 }
 
 // The same by the logs' own kind, which the first byte of the first that is not empty gives.
 // Ruled out: logs of two kinds compared; a first byte that is neither 10 nor 11 let through.
-pub fn compare<'a>(
-    a: &'a [u8],
-    b: &'a [u8],
-    list: &mut [u64],
-    count: &mut u64,
-    refusal: &mut u8,
-) -> &'a [u8]
-    ensures { Reports (compared_logs a.now b.now list.old) a.entry.ref_ptr b.entry.ref_ptr list.new count.new refusal.new result.now result.ref_ptr }
+pub fn compare<'a>(a: &'a [u8], b: &'a [u8], list: &mut [u64]) -> Report<'a>
+    ensures { Reports (compared_logs a.now b.now list.old) a.entry.ref_ptr b.entry.ref_ptr list.new result.count result.refusal result.rest.now result.rest.ref_ptr }
 {
-    compare_as(kind_of(a, b), a, b, list, count, refusal)
+    compare_as(kind_of(a, b), a, b, list)
 }
 
 // What a comparison gives beside its list, in numbers: the stretch is `length` bytes from `start` on, of the second log or of the first.
@@ -172,15 +178,13 @@ pub struct Compared {
 pub fn compare_numbers_as<'a>(kind: u8, a: &'a [u8], b: &'a [u8], list: &mut [u64]) -> Compared
     ensures { (list.new ≡ (compared_as kind a.now b.now list.old).list) × (result ≡ in_numbers (compared_as kind a.now b.now list.old)) }
 {
-    let mut count: u64 = 0;
-    let mut refusal: u8 = 0;
-    let rest = compare_as(kind, a, b, list, &mut count, &mut refusal);
+    let report = compare_as(kind, a, b, list);
     Compared {
-        count,
-        refusal,
-        second: (refusal == 0) & (a.len() < b.len()),
+        count: report.count,
+        refusal: report.refusal,
+        second: (report.refusal == 0) & (a.len() < b.len()),
         start: least(a.len(), b.len()),
-        length: rest.len(),
+        length: report.rest.len(),
     }
 }
 
