@@ -4,6 +4,7 @@
 ghost use Rattle.std.specs.Prelude.{◌≡◌, cond, ◌++◌, ◌≤◌, ◌<◌, ◌*◌, ◌/◌, length, take, drop};
 ghost use Rattle.answers.specs.Answer.{fields, stride};
 ghost use Rattle.tool_compare.specs.Answer.{same, sum_of};
+ghost use Rattle.tool_compare.specs.Refusals.{number, refusal_in};
 ghost use Rattle.tool_compare.specs.Compare.{differing, listed, compared, compared_as, compared_logs, Reports, in_numbers};
 
 use answers::{SIZES, fields_of};
@@ -82,34 +83,54 @@ fn write(k: usize, bytes: usize, a: &[u8], b: &[u8], n: usize, list: &mut [u64])
     }
 }
 
-// What a comparison gives beside its list: how many answers differ, its refusal or 0, and what the longer log has past the common end.
+// Why two logs are not compared: an answer of another kind, a cut answer, a list that is too short.
+#[derive(Clone, Copy)]
+pub enum Refusal {
+    OtherKind,
+    CutAnswer,
+    ShortList,
+}
+
+impl From<Refusal> for u8 {
+    ghost from_gives = { λ why n. n ≡ number why };
+
+    fn from(why: Refusal) -> u8 {
+        match why {
+            Refusal::OtherKind => 5,
+            Refusal::CutAnswer => 6,
+            Refusal::ShortList => 7,
+        }
+    }
+}
+
+// What a comparison gives beside its list: how many answers differ, its refusal, and what the longer log has past the common end.
 #[derive(Clone, Copy)]
 pub struct Report<'a> {
     pub count: u64,
-    pub refusal: u8,
+    pub refusal: Option<Refusal>,
     pub rest: &'a [u8],
 }
 
 // Compares two logs of answers that have the first k fields, and so many bytes.
 fn by_fields<'a>(k: usize, bytes: usize, a: &'a [u8], b: &'a [u8], list: &mut [u64]) -> Report<'a>
     requires { (k ≤ 8) × (bytes ≡ stride (take k fields)) × (0 < bytes) }
-    ensures { Reports (compared (take k fields) a.now b.now list.old) a.entry.ref_ptr b.entry.ref_ptr list.new result.count result.refusal result.rest.now result.rest.ref_ptr }
+    ensures { Reports (compared (take k fields) a.now b.now list.old) a.entry.ref_ptr b.entry.ref_ptr list.new result.count (refusal_in result.refusal) result.rest.now result.rest.ref_ptr }
 {
     let start = least(a.len(), b.len());
     let nothing = Report {
         count: 0,
-        refusal: 0,
+        refusal: None,
         rest: &a[start..start],
     };
     if a.len() % bytes != 0 {
         return Report {
-            refusal: 6,
+            refusal: Some(Refusal::CutAnswer),
             ..nothing
         };
     }
     if b.len() % bytes != 0 {
         return Report {
-            refusal: 6,
+            refusal: Some(Refusal::CutAnswer),
             ..nothing
         };
     }
@@ -117,7 +138,7 @@ fn by_fields<'a>(k: usize, bytes: usize, a: &'a [u8], b: &'a [u8], list: &mut [u
     let differ = differences(bytes, a, b, n);
     if list.len() / 2 < differ {
         return Report {
-            refusal: 7,
+            refusal: Some(Refusal::ShortList),
             ..nothing
         };
     }
@@ -126,28 +147,28 @@ fn by_fields<'a>(k: usize, bytes: usize, a: &'a [u8], b: &'a [u8], list: &mut [u
     if a.len() < b.len() {
         return Report {
             count,
-            refusal: 0,
+            refusal: None,
             rest: &b[start..],
         };
     }
     Report {
         count,
-        refusal: 0,
+        refusal: None,
         rest: &a[start..],
     }
 }
 
 // Compares two logs whose answers are to be of a kind. Two numbers for each differing answer go to the front of the list. What the
-// longer log has past the common end is handed back beside their count and the refusal, or 0.
+// longer log has past the common end is handed back beside their count and the refusal.
 // Ruled out: a differing answer left out; the list written on a refusal; the stretch of the shorter log; 7 for a cut log, 6 for a mixed one.
 pub fn compare_as<'a>(kind: u8, a: &'a [u8], b: &'a [u8], list: &mut [u64]) -> Report<'a>
-    ensures { Reports (compared_as kind a.now b.now list.old) a.entry.ref_ptr b.entry.ref_ptr list.new result.count result.refusal result.rest.now result.rest.ref_ptr }
+    ensures { Reports (compared_as kind a.now b.now list.old) a.entry.ref_ptr b.entry.ref_ptr list.new result.count (refusal_in result.refusal) result.rest.now result.rest.ref_ptr }
 {
     if mixed(kind, a) | mixed(kind, b) {
         let start = least(a.len(), b.len());
         return Report {
             count: 0,
-            refusal: 5,
+            refusal: Some(Refusal::OtherKind),
             rest: &a[start..start],
         };
     }
@@ -157,7 +178,7 @@ pub fn compare_as<'a>(kind: u8, a: &'a [u8], b: &'a [u8], list: &mut [u64]) -> R
 // The same by the logs' own kind, which the first byte of the first that is not empty gives.
 // Ruled out: logs of two kinds compared; a first byte that is neither 10 nor 11 let through.
 pub fn compare<'a>(a: &'a [u8], b: &'a [u8], list: &mut [u64]) -> Report<'a>
-    ensures { Reports (compared_logs a.now b.now list.old) a.entry.ref_ptr b.entry.ref_ptr list.new result.count result.refusal result.rest.now result.rest.ref_ptr }
+    ensures { Reports (compared_logs a.now b.now list.old) a.entry.ref_ptr b.entry.ref_ptr list.new result.count (refusal_in result.refusal) result.rest.now result.rest.ref_ptr }
 {
     compare_as(kind_of(a, b), a, b, list)
 }
@@ -173,16 +194,27 @@ pub struct Compared {
     pub length: usize,
 }
 
+// A refusal's number, or 0 for none.
+fn number(refusal: Option<Refusal>) -> u8
+    ensures { result ≡ refusal_in refusal }
+{
+    match refusal {
+        Some(why) => u8::from(why),
+        None => 0,
+    }
+}
+
 // By a kind, with the stretch in numbers.
 // Ruled out: a stretch of the first log where the second is longer; a start or a length of 0 for every stretch.
 pub fn compare_numbers_as<'a>(kind: u8, a: &'a [u8], b: &'a [u8], list: &mut [u64]) -> Compared
     ensures { (list.new ≡ (compared_as kind a.now b.now list.old).list) × (result ≡ in_numbers (compared_as kind a.now b.now list.old)) }
 {
     let report = compare_as(kind, a, b, list);
+    let refusal = number(report.refusal);
     Compared {
         count: report.count,
-        refusal: report.refusal,
-        second: (report.refusal == 0) & (a.len() < b.len()),
+        refusal,
+        second: (refusal == 0) & (a.len() < b.len()),
         start: least(a.len(), b.len()),
         length: report.rest.len(),
     }
