@@ -17,11 +17,10 @@ use Rattle.answers.specs.declared.Field.{Field}
 use Rattle.answers.specs.declared.Field.TheVariants.{Kind, Refusal, Value, Levels, Mask, Level, Vector, Clock}
 use Rattle.tool_judge.specs.Verdict.{alike, first_wrong, short, wrong_in, verdict}
 use Rattle.tool_judge.specs.Judge.{enough, expected}
-use Rattle.tool_judge.specs.Numbers.{number_of}
 use Rattle.tool_judge.specs.Verdict.{Verdict, accept, reject}
 use Rattle.std.specs.Prelude.{Ok, Err}
 use Rattle.tool_judge.proofs.Beginnings.{alike_self}
-use Rattle.tool_judge.proofs.Laws.{any_room, same_start, further_on, judging}
+use Rattle.tool_judge.proofs.Laws.{answer_in, any_room, same_start, further_on, judging}
 use Rattle.answers.proofs.Laws.{laws}
 use Rattle.trace.specs.Trace.{answer_length}
 use Rattle.tool_judge.proofs.Walking.{drop_take}
@@ -44,7 +43,7 @@ record Says (x y : List ℕ) (k : ℕ) (f : Field) : Type 0 where
 
 said : (x y : List ℕ) (k : ℕ) (f : Field) → reject (first_wrong x y) (wrong_in x y (first_wrong x y)) ≡ reject k f → (x ≡ y → ⊥) → Says x y k f
 said x y k f is ne =
-    let number : first_wrong x y ≡ k = ap number_of is in
+    let number : first_wrong x y ≡ k = ap answer_in is in
     let first : wrong_in x y (first_wrong x y) ≡ f = ap field_in is in
     record { number = sym number; field_is = sym first ∙ ap (wrong_in x y) number; unequal = ne }
 

@@ -86,7 +86,7 @@ compared_logs a b lent = compared_as (kind_of a b) a b lent
 abbrev pub placed : ℕ × ℕ → ℕ × ℕ → Outcome → ℕ × ℕ
 placed p q o = cond o.second (q.0, o.start + q.1) (p.0, o.start + p.1)
 
--- A comparison by lent numbers: the list left, the count, the refusal, and the part handed back, its bytes and its place.
+-- A comparison: the list left, the count, the refusal, and the part handed back, its bytes and its place.
 pub record Reports (o : Outcome) (p q : ℕ × ℕ) (list : List ℕ) (count refusal : ℕ) (part : List ℕ) (place : ℕ × ℕ) : Type 0 where
   pub list_is : list ≡ o.list
   pub count_is : count ≡ o.count

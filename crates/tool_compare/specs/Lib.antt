@@ -1,5 +1,6 @@
 pub mod Answer
 pub mod Kind
+pub mod Refusals
 pub mod Compare
 pub mod Laws
 pub mod Pieces

@@ -33,7 +33,7 @@ pub fn answers_begun(kind: u8, log: &[u8]) -> usize
     ensures { result ≡ begun (stride_of kind) log.now }
 {
     let bytes = stride_of(kind);
-    (log.len() + (bytes - 1)) / bytes
+    log.len().div_ceil(bytes)
 }
 
 // The number of the first answer, a cut last one too, that does not begin with the kind, or of any if that is neither 10 nor 11; how many

@@ -4,6 +4,7 @@
 ghost use Rattle.std.specs.Prelude.{◌≡◌, cond, ◌++◌, ◌≤◌, ◌<◌, ◌*◌, ◌/◌, length, take, drop};
 ghost use Rattle.answers.specs.Answer.{fields, stride};
 ghost use Rattle.tool_compare.specs.Answer.{same, sum_of};
+ghost use Rattle.tool_compare.specs.Refusals.{number, refusal_in};
 ghost use Rattle.tool_compare.specs.Compare.{differing, listed, compared, compared_as, compared_logs, Reports, in_numbers};
 
 use answers::{SIZES, fields_of};
@@ -81,78 +82,104 @@ fn write(k: usize, bytes: usize, a: &[u8], b: &[u8], n: usize, list: &mut [u64])
     }
 }
 
+// Why two logs are not compared: an answer of another kind, a cut answer, a list that is too short.
+#[derive(Clone, Copy)]
+pub enum Refusal {
+    OtherKind,
+    CutAnswer,
+    ShortList,
+}
+
+impl From<Refusal> for u8 {
+    ghost from_gives = { λ why n. n ≡ number why };
+
+    fn from(why: Refusal) -> u8 {
+        match why {
+            Refusal::OtherKind => 5,
+            Refusal::CutAnswer => 6,
+            Refusal::ShortList => 7,
+        }
+    }
+}
+
+// What a comparison gives beside its list: how many answers differ, its refusal, and what the longer log has past the common end.
+#[derive(Clone, Copy)]
+pub struct Report<'a> {
+    pub count: u64,
+    pub refusal: Option<Refusal>,
+    pub rest: &'a [u8],
+}
+
 // Compares two logs of answers that have the first k fields, and so many bytes.
-fn by_fields<'a>(
-    k: usize,
-    bytes: usize,
-    a: &'a [u8],
-    b: &'a [u8],
-    list: &mut [u64],
-    count: &mut u64,
-    refusal: &mut u8,
-) -> &'a [u8]
+fn by_fields<'a>(k: usize, bytes: usize, a: &'a [u8], b: &'a [u8], list: &mut [u64]) -> Report<'a>
     requires { (k ≤ 8) × (bytes ≡ stride (take k fields)) × (0 < bytes) }
-    ensures { Reports (compared (take k fields) a.now b.now list.old) a.entry.ref_ptr b.entry.ref_ptr list.new count.new refusal.new result.now result.ref_ptr }
+    ensures { Reports (compared (take k fields) a.now b.now list.old) a.entry.ref_ptr b.entry.ref_ptr list.new result.count (refusal_in result.refusal) result.rest.now result.rest.ref_ptr }
 {
-    *count = 0;
     let start = a.len().min(b.len());
+    let nothing = Report {
+        count: 0,
+        refusal: None,
+        rest: &a[start..start],
+    };
     if a.len() % bytes != 0 {
-        *refusal = 6;
-        return &a[start..start];
+        return Report {
+            refusal: Some(Refusal::CutAnswer),
+            ..nothing
+        };
     }
     if b.len() % bytes != 0 {
-        *refusal = 6;
-        return &a[start..start];
+        return Report {
+            refusal: Some(Refusal::CutAnswer),
+            ..nothing
+        };
     }
     let n = (a.len() / bytes).min(b.len() / bytes);
     let differ = differences(bytes, a, b, n);
     if list.len() / 2 < differ {
-        *refusal = 7;
-        return &a[start..start];
+        return Report {
+            refusal: Some(Refusal::ShortList),
+            ..nothing
+        };
     }
     write(k, bytes, a, b, n, list);
-    *count = differ as u64;
-    *refusal = 0;
+    let count = differ as u64;
     if a.len() < b.len() {
-        return &b[start..];
+        return Report {
+            count,
+            refusal: None,
+            rest: &b[start..],
+        };
     }
-    &a[start..]
+    Report {
+        count,
+        refusal: None,
+        rest: &a[start..],
+    }
 }
 
-// Compares two logs whose answers are to be of a kind. Two numbers for each differing answer go to the front of the list, their count and
-// the refusal, or 0, are lent too. What the longer log has past the common end is handed back.
+// Compares two logs whose answers are to be of a kind. Two numbers for each differing answer go to the front of the list. What the
+// longer log has past the common end is handed back beside their count and the refusal.
 // Ruled out: a differing answer left out; the list written on a refusal; the stretch of the shorter log; 7 for a cut log, 6 for a mixed one.
-pub fn compare_as<'a>(
-    kind: u8,
-    a: &'a [u8],
-    b: &'a [u8],
-    list: &mut [u64],
-    count: &mut u64,
-    refusal: &mut u8,
-) -> &'a [u8]
-    ensures { Reports (compared_as kind a.now b.now list.old) a.entry.ref_ptr b.entry.ref_ptr list.new count.new refusal.new result.now result.ref_ptr }
+pub fn compare_as<'a>(kind: u8, a: &'a [u8], b: &'a [u8], list: &mut [u64]) -> Report<'a>
+    ensures { Reports (compared_as kind a.now b.now list.old) a.entry.ref_ptr b.entry.ref_ptr list.new result.count (refusal_in result.refusal) result.rest.now result.rest.ref_ptr }
 {
     if mixed(kind, a) | mixed(kind, b) {
-        *count = 0;
-        *refusal = 5;
         let start = a.len().min(b.len());
-        return &a[start..start];
+        return Report {
+            count: 0,
+            refusal: Some(Refusal::OtherKind),
+            rest: &a[start..start],
+        };
     }
-    by_fields(fields_of(kind), stride_of(kind), a, b, list, count, refusal)
+    by_fields(fields_of(kind), stride_of(kind), a, b, list)
 }
 
 // The same by the logs' own kind, which the first byte of the first that is not empty gives.
 // Ruled out: logs of two kinds compared; a first byte that is neither 10 nor 11 let through.
-pub fn compare<'a>(
-    a: &'a [u8],
-    b: &'a [u8],
-    list: &mut [u64],
-    count: &mut u64,
-    refusal: &mut u8,
-) -> &'a [u8]
-    ensures { Reports (compared_logs a.now b.now list.old) a.entry.ref_ptr b.entry.ref_ptr list.new count.new refusal.new result.now result.ref_ptr }
+pub fn compare<'a>(a: &'a [u8], b: &'a [u8], list: &mut [u64]) -> Report<'a>
+    ensures { Reports (compared_logs a.now b.now list.old) a.entry.ref_ptr b.entry.ref_ptr list.new result.count (refusal_in result.refusal) result.rest.now result.rest.ref_ptr }
 {
-    compare_as(kind_of(a, b), a, b, list, count, refusal)
+    compare_as(kind_of(a, b), a, b, list)
 }
 
 // What a comparison gives beside its list, in numbers: the stretch is `length` bytes from `start` on, of the second log or of the first.
@@ -166,20 +193,29 @@ pub struct Compared {
     pub length: usize,
 }
 
+// A refusal's number, or 0 for none.
+fn number(refusal: Option<Refusal>) -> u8
+    ensures { result ≡ refusal_in refusal }
+{
+    match refusal {
+        Some(why) => u8::from(why),
+        None => 0,
+    }
+}
+
 // By a kind, with the stretch in numbers.
 // Ruled out: a stretch of the first log where the second is longer; a start or a length of 0 for every stretch.
 pub fn compare_numbers_as<'a>(kind: u8, a: &'a [u8], b: &'a [u8], list: &mut [u64]) -> Compared
     ensures { (list.new ≡ (compared_as kind a.now b.now list.old).list) × (result ≡ in_numbers (compared_as kind a.now b.now list.old)) }
 {
-    let mut count: u64 = 0;
-    let mut refusal: u8 = 0;
-    let rest = compare_as(kind, a, b, list, &mut count, &mut refusal);
+    let report = compare_as(kind, a, b, list);
+    let refusal = number(report.refusal);
     Compared {
-        count,
+        count: report.count,
         refusal,
         second: (refusal == 0) & (a.len() < b.len()),
         start: a.len().min(b.len()),
-        length: rest.len(),
+        length: report.rest.len(),
     }
 }
 

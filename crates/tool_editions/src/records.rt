@@ -91,11 +91,11 @@ fn edition_at(rest: &[u8]) -> Edition
     ensures { result ≡ edition_at rest.now }
 {
     Edition {
-        number: steps::word(rest[1], rest[2]),
-        sccr0: steps::word(rest[3], rest[4]),
-        sccr1: steps::word(rest[5], rest[6]),
-        spcr0: steps::word(rest[7], rest[8]),
-        spcr1: steps::word(rest[9], rest[10]),
+        number: u16::from_be_bytes([rest[1], rest[2]]),
+        sccr0: u16::from_be_bytes([rest[3], rest[4]]),
+        sccr1: u16::from_be_bytes([rest[5], rest[6]]),
+        spcr0: u16::from_be_bytes([rest[7], rest[8]]),
+        spcr1: u16::from_be_bytes([rest[9], rest[10]]),
     }
 }
 
@@ -105,7 +105,7 @@ fn edition_at(rest: &[u8]) -> Edition
 pub fn parse(rest: &[u8]) -> Result<Record, Unreadable>
     ensures { result ≡ parsed rest.now }
 {
-    if rest.len() == 0 {
+    if rest.is_empty() {
         return Err(Unreadable::Cut);
     }
     let kind = rest[0];
@@ -119,7 +119,7 @@ pub fn parse(rest: &[u8]) -> Result<Record, Unreadable>
         if rest.len() < WITHDRAWN_SIZE {
             return Err(Unreadable::Cut);
         }
-        return Ok(Record::Withdrawn(steps::word(rest[1], rest[2])));
+        return Ok(Record::Withdrawn(u16::from_be_bytes([rest[1], rest[2]])));
     }
     Err(Unreadable::Unknown)
 }

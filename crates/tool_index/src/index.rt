@@ -36,11 +36,7 @@ fn marks_for(n: u64) -> u64
     requires { n ≤ largest }
     ensures { result ≡ marks_for n }
 {
-    if n % SPACING == 0 {
-        n / SPACING
-    } else {
-        n / SPACING + 1
-    }
+    n.div_ceil(SPACING)
 }
 
 // How many of them are new where some are there.

@@ -22,7 +22,6 @@ use Rattle.trace.proofs.Playing.{record_within, play_none, played}
 use Rattle.trace.proofs.Laws.{bytes_each, answers_fit, read_within, resumes}
 use Rattle.answers.specs.declared.Field.{Field}
 use Rattle.tool_judge.specs.Verdict.{alike, first_wrong, wrong_in, verdict, numbered, before}
-use Rattle.tool_judge.specs.Numbers.{number_of}
 use Rattle.tool_judge.specs.Judge.{enough, expected, room_of, walked_to}
 use Rattle.tool_judge.specs.Claims.{OwnAccepted, AcceptedEqual, answer, FirstDiffering, StopTold, afterwards, InParts, Met, Claims}
 use Rattle.tool_judge.specs.Verdict.{Verdict, accept, reject}
@@ -81,6 +80,10 @@ abbrev right : Verdict → Bool
 right (Ok x) = true
 right (Err w) = false
 
+abbrev pub answer_in : Verdict → ℕ
+answer_in (Ok x) = 0
+answer_in (Err w) = w.answer
+
 -- What a verdict that is not `Accepted` says.
 names : (x y : List ℕ) (k : ℕ) (f : Field) (s t : Bool) → eqb (alike x y) (length x) ≡ s → eqb (alike x y) (length y) ≡ t → verdict x y ≡ reject k f
     → (k ≡ first_wrong x y) × (x ≡ y → ⊥)
@@ -88,10 +91,10 @@ unfolding verdict
 names x y k f true true p q e = let no : accept ≡ reject k f = rw (p, q) at e in absurd (true≢false (ap right no))
 names x y k f true false p q e =
     let is : reject (first_wrong x y) (wrong_in x y (first_wrong x y)) ≡ reject k f = rw (p, q) at e in
-    (sym (ap number_of is), λ h. eqb-false _ _ q (sym (ap (alike x) h) ∙ alike_self x ∙ ap length h))
+    (sym (ap answer_in is), λ h. eqb-false _ _ q (sym (ap (alike x) h) ∙ alike_self x ∙ ap length h))
 names x y k f false t p q e =
     let is : reject (first_wrong x y) (wrong_in x y (first_wrong x y)) ≡ reject k f = rw (p) at e in
-    (sym (ap number_of is), λ h. eqb-false _ _ p (sym (ap (alike x) h) ∙ alike_self x))
+    (sym (ap answer_in is), λ h. eqb-false _ _ p (sym (ap (alike x) h) ∙ alike_self x))
 
 pub same_start : (k : ℕ) (x y : List ℕ) → k ≤ alike x y → take k x ≡ take k y
 unfolding alike
