@@ -41,6 +41,7 @@ pub enum Stop {
 }
 
 // Its number.
+// Ruled out: the number of another; a number for the end.
 impl From<Stop> for u8 {
     ghost from_gives = { λ s n. n ≡ number_of s };
 
