@@ -1,19 +1,21 @@
 -- How a drawing ended: `refusal 5, unknown record kind: record at byte 8`, and the status.
-use Rattle.std.specs.Prelude.{Bool, true, false, cond, List, [], ◌∷◌, ◌++◌, ℕ, eqb}
+use Rattle.std.specs.Prelude.{Bool, true, false, cond, Option, Result, Ok, Err, List, [], ◌∷◌, ◌++◌, ℕ, eqb}
 use Rattle.trace.specs.declared.Stop.TheVariants as stop
 use Rattle.text.specs.Digits.{ascii, decimal}
 use Rattle.text.specs.Message as message
 use Rattle.console.specs.declared.status.Status.{Status}
 use Rattle.console.specs.declared.status.Status.TheVariants as exit
-use Rattle.tool_wave.specs.declared.Outcome.{Outcome}
-use Rattle.tool_wave.specs.declared.Outcome.TheVariants.{Nothing, Drawn, Stopped, Ended}
+use Rattle.tool_wave.specs.declared.Step.{Step}
+use Rattle.tool_wave.specs.declared.Stop.{Stop}
+use Rattle.tool_wave.specs.declared.Stop.TheVariants.{End, UnknownKind, CutRecord, ClockLimit}
 
 -- More bytes could change what was told: at the end of a piece, or before a record that its end cuts.
-abbrev pub wants : Outcome → Bool
-wants Nothing = false
-wants (Drawn s) = false
-wants (Stopped why) = eqb why 6
-wants Ended = true
+abbrev pub wants : Result (Option Step) Stop → Bool
+wants (Ok told) = false
+wants (Err End) = true
+wants (Err UnknownKind) = false
+wants (Err CutRecord) = true
+wants (Err ClockLimit) = false
 
 abbrev pub stop_words : ℕ → List ℕ
 stop_words why =
@@ -25,8 +27,9 @@ stop_line why place =
     ascii "refusal " ++ decimal 3 why ++ ascii ", " ++ stop_words why ++ ascii ": record at byte " ++ decimal 20 place ++ (10 ∷ [])
 
 -- A trace that stopped is told to a script; what has not ended could not be done.
-abbrev pub status : Outcome → Status
-status Nothing = exit.Failed
-status (Drawn s) = exit.Failed
-status (Stopped why) = exit.Found
-status Ended = exit.Done
+abbrev pub status : Result (Option Step) Stop → Status
+status (Ok told) = exit.Failed
+status (Err End) = exit.Done
+status (Err UnknownKind) = exit.Found
+status (Err CutRecord) = exit.Found
+status (Err ClockLimit) = exit.Found

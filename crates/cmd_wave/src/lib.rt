@@ -13,7 +13,7 @@ use files::message::{fail, say};
 use files::origin::Origin;
 use files::system::{Sink, System};
 use std::io::Error;
-use tool_wave::Outcome;
+use tool_wave::{Step, Stop};
 
 mod ending;
 mod piece;
@@ -68,12 +68,11 @@ $enddefinitions $end
 }
 
 // What is said of the end, at a place of the trace in bytes.
-fn say_end(told: Outcome, place: u64) {
+fn say_end(told: Result<Option<Step>, Stop>, place: u64) {
     match told {
-        Outcome::Ended => {}
-        Outcome::Stopped(why) => say_line(b"wave", stop_line(why, place)),
-        Outcome::Nothing => say(b"wave", b"trace too long\n"),
-        Outcome::Drawn(_) => say(b"wave", b"trace too long\n"),
+        Ok(_) => say(b"wave", b"trace too long\n"),
+        Err(Stop::End) => {}
+        Err(why) => say_line(b"wave", stop_line(why, place)),
     }
 }
 

@@ -7,7 +7,7 @@ ghost use Rattle.cmd_wave.specs.Piece.{over, step_told, rebased, Draws};
 use console::output::{Out, put_line};
 use files::system::Sink;
 use tool_wave::vcd::step_text;
-use tool_wave::{Outcome, Turned, Waves, go_on};
+use tool_wave::{Step, Stop, Turned, Waves, go_on};
 
 // Where a drawing stands after a piece, with what its last turn told, and the output.
 #[derive(Clone, Copy)]
@@ -17,26 +17,22 @@ pub struct Went {
 }
 
 // Whether a piece has no more to draw.
-fn over(o: Outcome) -> bool
+fn over(o: Result<Option<Step>, Stop>) -> bool
     ensures { result ≡ over o }
 {
-    match o {
-        Outcome::Nothing => false,
-        Outcome::Drawn(_) => false,
-        Outcome::Stopped(_) => true,
-        Outcome::Ended => true,
-    }
+    o.is_err()
 }
 
 // Ruled out: a change that is not drawn; the text of the change before.
-fn put_step(hz: u32, to: &Sink, out: Out, buf: &mut [u8], told: Outcome) -> Out
+fn put_step(hz: u32, to: &Sink, out: Out, buf: &mut [u8], told: Result<Option<Step>, Stop>) -> Out
     ensures { Gives out buf.old (step_told hz told) result buf.new }
 {
+    let Ok(told) = told else {
+        return out;
+    };
     match told {
-        Outcome::Nothing => out,
-        Outcome::Drawn(step) => put_line(to, out, buf, step_text(hz, step)),
-        Outcome::Stopped(_) => out,
-        Outcome::Ended => out,
+        Some(step) => put_line(to, out, buf, step_text(hz, step)),
+        None => out,
     }
 }
 
@@ -60,7 +56,7 @@ pub fn draw(hz: u32, s: Waves, to: &Sink, out: Out, buf: &mut [u8], bytes: &[u8]
 {
     let mut now = Turned {
         state: s,
-        outcome: Outcome::Nothing,
+        outcome: Ok(None),
     };
     let mut given = out;
     let mut turns = u64::MAX;

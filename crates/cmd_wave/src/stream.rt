@@ -6,7 +6,7 @@ use console::output::{Out, flush};
 use files::origin::Origin;
 use files::pieces::counted;
 use files::system::{Sink, System};
-use tool_wave::{Outcome, Turned};
+use tool_wave::{Step, Stop, Turned};
 
 // The input, and where the drawing stands.
 #[derive(Clone, Copy)]
@@ -20,7 +20,7 @@ struct Drawing {
 #[derive(Clone, Copy)]
 pub struct End {
     pub unread: bool,
-    pub told: Outcome,
+    pub told: Result<Option<Step>, Stop>,
     pub place: u64,
     pub clock: u64,
     pub out: Out,
@@ -95,7 +95,7 @@ pub fn draw_all<R: System>(
         went: Went {
             turned: Turned {
                 state: tool_wave::start(),
-                outcome: Outcome::Ended,
+                outcome: Err(Stop::End),
             },
             out,
         },

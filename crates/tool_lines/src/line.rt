@@ -36,6 +36,7 @@ pub enum Cause {
 }
 
 // As a line has it.
+// Ruled out: the number of another; 0, which is no cause.
 impl From<Cause> for u8 {
     ghost from_gives = { λ c n. n ≡ number_of c };
 

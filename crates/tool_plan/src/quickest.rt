@@ -77,6 +77,8 @@ impl Points {
     }
 }
 
+// As hosts have it.
+// Ruled out: a plan with a refusal; a refusal that is 0.
 impl From<Option<Plan>> for Planned {
     ghost from_gives = { λ p n. n ≡ answered p };
 

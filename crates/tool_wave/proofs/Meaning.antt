@@ -17,6 +17,7 @@ use Rattle.qsm.specs.declared.event.Event.TheVariants.{Reset, Hold}
 use Rattle.qsm.specs.declared.event.Event.TheVariants as event
 use Rattle.qsm.proofs.Clocks.{apart}
 use Rattle.qsm.proofs.Limit.{hold_played, is_room}
+use Rattle.std.specs.Prelude.{Some, None, Ok}
 use Rattle.tool_wave.specs.View.{none}
 use Rattle.tool_wave.specs.Probe.{tick, restarted, taken, accessed, limited, calm, ahead}
 use Rattle.tool_wave.specs.Drawn.{step_to, still, change, ticks, drawn, after, stops, Drawn, stopped, followed, drawn_from}
@@ -25,7 +26,6 @@ use Rattle.tool_wave.specs.Claims.{meant, telling}
 use Rattle.tool_wave.specs.declared.view.Kept.{Kept}
 use Rattle.tool_wave.specs.declared.probe.Probe.{Probe}
 use Rattle.tool_wave.specs.declared.Step.{Step}
-use Rattle.tool_wave.specs.declared.Outcome.TheVariants as outcome
 use Rattle.tool_wave.specs.declared.Waves.{Waves}
 use Rattle.tool_wave.specs.declared.Turned.{Turned}
 use Rattle.tool_wave.proofs.Calm.{along, start_along, ticked, passed}
@@ -89,11 +89,11 @@ tick_room p n k h more q is =
 abbrev pub telled : List ℕ → Turned → Drawn
 telled t r = telling r.outcome (meant t r.state)
 
-told_means : (p q : Probe) (refusal : ℕ) (d : Drawn) → telling (told p q refusal) d ≡ followed (change p q refusal) d
+told_means : (p q : Probe) (refusal : ℕ) (d : Drawn) → telling (Ok (told p q refusal)) d ≡ followed (change p q refusal) d
 told_means p q refusal d = go (still p q refusal)
   where
     go : (b : Bool) →
-        telling (cond b outcome.Nothing (outcome.Drawn (step_to p q refusal))) d
+        telling (Ok (cond b None (Some (step_to p q refusal)))) d
         ≡ followed (cond b [] (step_to p q refusal ∷ [])) d
     go true = refl
     go false = refl
@@ -120,7 +120,7 @@ pub moved_means : (t : List ℕ) (at left : ℕ) (p q : Probe) (refusal : ℕ) �
     telled t (moved at left p q refusal)
     ≡ followed (change p q refusal ++ ticks left q) (drawn_from (iterate left tick q) (drop at t))
 moved_means t at left p q refusal fits =
-    ap (telling (told p q refusal)) (meant_plain t (record { at = at; left = left; probe = q }) fits)
+    ap (telling (Ok (told p q refusal))) (meant_plain t (record { at = at; left = left; probe = q }) fits)
     ∙ told_means p q refusal (rests t (record { at = at; left = left; probe = q }))
     ∙ sym (both_follow (change p q refusal) (ticks left q) (drawn_from (iterate left tick q) (drop at t)))
 
@@ -141,7 +141,7 @@ module _ (t : List ℕ) (s : Waves) (fits : limited s.probe s.left ≡ false) wh
   abbrev rest : List ℕ
   rest = drop s.at t
 
-  all_calm : s.left ≤ k → rests t s ≡ telled t (turned (record { at = s.at; left = 0; probe = ahead p s.left }) outcome.Nothing)
+  all_calm : s.left ≤ k → rests t s ≡ telled t (turned (record { at = s.at; left = 0; probe = ahead p s.left }) (Ok None))
   unfolding ticks
   all_calm few =
       let none : s.left + 0 ≡ s.left = omega arith in
@@ -176,7 +176,7 @@ module _ (t : List ℕ) (s : Waves) (fits : limited s.probe s.left ≡ false) wh
       go : (few : Bool) → leb s.left k ≡ few →
           rests t s
           ≡ telled t
-          (cond few (turned (record { at = s.at; left = 0; probe = ahead p s.left }) outcome.Nothing)
+          (cond few (turned (record { at = s.at; left = 0; probe = ahead p s.left }) (Ok None))
           (moved s.at later (ahead p k) (tick (ahead p k)) 0))
       go true is = all_calm (leb-true s.left k is)
       go false is = next_change (leb-false s.left k is)

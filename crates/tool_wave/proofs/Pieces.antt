@@ -16,19 +16,20 @@ use Rattle.trace.specs.declared.Parsed.{Parsed}
 use Rattle.trace.specs.declared.Parsed.TheVariants.{Record, Unknown, Cut}
 use Rattle.trace.proofs.Playing.{record_kept}
 use Rattle.tool_wave.specs.Probe.{tick, restarted, taken, accessed, limited, calm, ahead}
-use Rattle.tool_wave.specs.Drawn.{stops}
-use Rattle.tool_wave.specs.Turn.{turned, moved, event_on, record_on, hold_on, turn}
+use Rattle.std.specs.Prelude.{Option, Some, None, Result, Ok, Err}
+use Rattle.tool_wave.specs.Turn.{turned, moved, stop_at, event_on, event_or_stop, record_on, hold_on, turn}
 use Rattle.tool_wave.specs.Claims.{goes, Grows, without, Shifts}
-use Rattle.tool_wave.specs.declared.Outcome.{Outcome}
-use Rattle.tool_wave.specs.declared.Outcome.TheVariants as outcome
+use Rattle.tool_wave.specs.declared.Step.{Step}
+use Rattle.tool_wave.specs.declared.Stop.{Stop}
+use Rattle.tool_wave.specs.declared.Stop.TheVariants as stop
 use Rattle.tool_wave.specs.declared.Waves.{Waves}
 use Rattle.tool_wave.specs.declared.Turned.{Turned}
 
-pub never : (o : Outcome) → goes o ≡ false → goes o ≡ true → ⊥
+pub never : (o : Result (Option Step) Stop) → goes o ≡ false → goes o ≡ true → ⊥
 never o is not = true≢false (sym not ∙ is)
 
 abbrev by : Waves → List ℕ → Bool → Bool → Turned
-by s t idle over = cond idle (cond over (turned s outcome.Ended) (record_on s (parsed (drop s.at t)))) (hold_on s)
+by s t idle over = cond idle (cond over (turned s (Err stop.End)) (record_on s (parsed (drop s.at t)))) (hold_on s)
 
 -- ---- more bytes behind
 
@@ -37,16 +38,16 @@ module _ (t more : List ℕ) (s : Waves) where
       record_on s (parsed (drop s.at (t ++ more))) ≡ record_on s r
   record_grows (Record e n) is lt h =
       ap (record_on s) (ap parsed (drop-append-le s.at t more (omega arith)) ∙ record_kept (drop s.at t) more is)
-  record_grows Unknown is lt h = absurd (never (outcome.Stopped 5) refl h)
-  record_grows Cut is lt h = absurd (never (outcome.Stopped 6) refl h)
+  record_grows Unknown is lt h = absurd (never (Err stop.UnknownKind) refl h)
+  record_grows Cut is lt h = absurd (never (Err stop.CutRecord) refl h)
 
   grows_by : (idle over : Bool) → leb (length t) s.at ≡ over → goes (by s t idle over).outcome ≡ true →
       by s (t ++ more) idle (leb (length (t ++ more)) s.at) ≡ by s t idle over
-  grows_by true true is h = absurd (never outcome.Ended refl h)
+  grows_by true true is h = absurd (never (Err stop.End) refl h)
   grows_by true false is h =
       let lt : s.at < length t = leb-false (length t) s.at is in
       let within : s.at < length (t ++ more) = simp length-append (omega arith) in
-      ap (λ (b : Bool). cond b (turned s outcome.Ended) (record_on s (parsed (drop s.at (t ++ more))))) (lt-leb (length (t ++ more)) s.at within)
+      ap (λ (b : Bool). cond b (turned s (Err stop.End)) (record_on s (parsed (drop s.at (t ++ more))))) (lt-leb (length (t ++ more)) s.at within)
       ∙ record_grows (parsed (drop s.at t)) refl lt h
   grows_by false over is h = refl
 
@@ -68,13 +69,11 @@ module _ (t : List ℕ) (k : ℕ) (s : Waves) (past : k ≤ s.at) where
       ap (λ (x : ℕ). moved x 0 s.probe (accessed s.probe c).probe (accessed s.probe c).refusal) is
 
   record_shifts : (r : Parsed) → record_on (without k s) r ≡ back (record_on s r)
-  record_shifts (Record e n) = go (eqb (stops s.probe e) 0)
+  record_shifts (Record e n) = go (stop_at s.probe e)
     where
-      go : (b : Bool) →
-          cond b (event_on (without k s) (s.at - k + n) e) (turned (without k s) (outcome.Stopped (stops s.probe e)))
-          ≡ back (cond b (event_on s (s.at + n) e) (turned s (outcome.Stopped (stops s.probe e))))
-      go true = event_shifts (s.at - k + n) (s.at + n) e (omega (arith, past))
-      go false = refl
+      go : (why : Option Stop) → event_or_stop (without k s) e n why ≡ back (event_or_stop s e n why)
+      go None = event_shifts (s.at - k + n) (s.at + n) e (omega (arith, past))
+      go (Some why) = refl
   record_shifts Unknown = refl
   record_shifts Cut = refl
 
@@ -83,12 +82,12 @@ module _ (t : List ℕ) (k : ℕ) (s : Waves) (past : k ≤ s.at) where
   hold_shifts = go (limited s.probe s.left) (leb s.left (calm s.probe))
     where
       go : (over few : Bool) →
-          cond over (turned (without k s) (outcome.Stopped 10))
-          (cond few (turned (record { at = s.at - k; left = 0; probe = ahead s.probe s.left }) outcome.Nothing)
+          cond over (turned (without k s) (Err stop.ClockLimit))
+          (cond few (turned (record { at = s.at - k; left = 0; probe = ahead s.probe s.left }) (Ok None))
           (moved (s.at - k) (s.left - calm s.probe - 1) (ahead s.probe (calm s.probe)) (tick (ahead s.probe (calm s.probe))) 0))
           ≡ back
-          (cond over (turned s (outcome.Stopped 10))
-          (cond few (turned (record { at = s.at; left = 0; probe = ahead s.probe s.left }) outcome.Nothing)
+          (cond over (turned s (Err stop.ClockLimit))
+          (cond few (turned (record { at = s.at; left = 0; probe = ahead s.probe s.left }) (Ok None))
           (moved s.at (s.left - calm s.probe - 1) (ahead s.probe (calm s.probe)) (tick (ahead s.probe (calm s.probe))) 0)))
       go true few = refl
       go false true = refl

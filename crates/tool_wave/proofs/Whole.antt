@@ -7,7 +7,7 @@ use native.Mathlib.Omega.{arith}
 use lib.Dec.{eqb, ltb, leb}
 use lib.ListN.{length, take, drop, length-drop}
 use lib.Seq.{drop-drop, get_or-drop, take_all}
-use borrow.Author.Tests.{eqb-true, eqb-false, leb-true, leb-false}
+use borrow.Author.Tests.{eqb-false, leb-true, leb-false}
 use Rattle.qsm.specs.declared.event.Event.{Event}
 use Rattle.qsm.specs.declared.event.Event.TheVariants.{Reset, Hold}
 use Rattle.qsm.specs.declared.event.Event.TheVariants as event
@@ -15,12 +15,14 @@ use Rattle.trace.specs.Trace.{byte_at, reset_kind, hold_kind, read_kind, write_k
 use Rattle.trace.specs.declared.Parsed.{Parsed}
 use Rattle.trace.specs.declared.Parsed.TheVariants.{Record, Unknown, Cut}
 use Rattle.trace.proofs.Playing.{record_within}
+use Rattle.std.specs.Prelude.{Option, Some, None, Result, Ok, Err}
 use Rattle.tool_wave.specs.Probe.{tick, limited, calm, ahead}
 use Rattle.tool_wave.specs.Drawn.{drawn, after, stops, Drawn, stopped, followed, next, drawn_from}
-use Rattle.tool_wave.specs.Turn.{turned, moved, event_on, size_of, record_on, hold_for, hold_on, turn}
+use Rattle.tool_wave.specs.Turn.{turned, moved, stop_at, event_on, event_or_stop, size_of, record_on, hold_for, hold_on, turn}
 use Rattle.tool_wave.specs.Claims.{meant, telling, over_and_over, turns_left, goes, Bytes, Whole, FromStart}
-use Rattle.tool_wave.specs.declared.Outcome.{Outcome}
-use Rattle.tool_wave.specs.declared.Outcome.TheVariants as outcome
+use Rattle.tool_wave.specs.declared.Step.{Step}
+use Rattle.tool_wave.specs.declared.Stop.{Stop}
+use Rattle.tool_wave.specs.declared.Stop.TheVariants as stop
 use Rattle.tool_wave.specs.declared.Waves.{Waves}
 use Rattle.tool_wave.proofs.Records.{unroll, none_left}
 use Rattle.tool_wave.proofs.Pieces.{never}
@@ -37,13 +39,22 @@ module _ (t : List ℕ) (s : Waves) where
       ap (λ (u : List ℕ). cond (eqb (stops s.probe e) 0) (followed (drawn s.probe e) (drawn_from (after s.probe e) u))
       (stopped (stops s.probe e)))
       (drop-drop n s.at t)
-      ∙ go (eqb (stops s.probe e) 0) refl
+      ∙ go e
     where
-      go : (goes : Bool) → eqb (stops s.probe e) 0 ≡ goes →
-          cond goes (followed (drawn s.probe e) (drawn_from (after s.probe e) (drop (s.at + n) t))) (stopped (stops s.probe e))
-          ≡ telled t (cond goes (event_on s (s.at + n) e) (turned s (outcome.Stopped (stops s.probe e))))
-      go true is = event_means t s (s.at + n) e (eqb-true (stops s.probe e) 0 is)
-      go false is = refl
+      go : (f : Event) →
+          cond (eqb (stops s.probe f) 0) (followed (drawn s.probe f) (drawn_from (after s.probe f) (drop (s.at + n) t))) (stopped (stops s.probe f))
+          ≡ telled t (event_or_stop s f n (stop_at s.probe f))
+      go Reset = event_means t s (s.at + n) Reset refl
+      go (Hold pins rxd k) = by_limit (limited s.probe k) refl
+        where
+          by_limit : (over : Bool) → limited s.probe k ≡ over →
+              cond (eqb (cond over 10 0) 0)
+              (followed (drawn s.probe (Hold pins rxd k)) (drawn_from (after s.probe (Hold pins rxd k)) (drop (s.at + n) t)))
+              (stopped (cond over 10 0))
+              ≡ telled t (event_or_stop s (Hold pins rxd k) n (cond over (Some stop.ClockLimit) None))
+          by_limit true is = refl
+          by_limit false is = event_means t s (s.at + n) (Hold pins rxd k) (ap (λ (b : Bool). cond b 10 0) is)
+      go (event.Access a) = event_means t s (s.at + n) (event.Access a) refl
   record_means Unknown = refl
   record_means Cut = refl
 
@@ -52,12 +63,12 @@ module _ (t : List ℕ) (s : Waves) where
   way_means busy = go (limited s.probe s.left) refl
     where
       go : (over : Bool) → limited s.probe s.left ≡ over →
-          meant t s ≡ telled t (cond over (turned s (outcome.Stopped 10)) (hold_for s (calm s.probe)))
+          meant t s ≡ telled t (cond over (turned s (Err stop.ClockLimit)) (hold_for s (calm s.probe)))
       go true is = rw (busy, is)
       go false is = hold_means t s is
 
   turn_by : (idle over : Bool) → eqb s.left 0 ≡ idle → leb (length t) s.at ≡ over →
-      meant t s ≡ telled t (cond idle (cond over (turned s outcome.Ended) (record_on s (parsed here))) (hold_on s))
+      meant t s ≡ telled t (cond idle (cond over (turned s (Err stop.End)) (record_on s (parsed here))) (hold_on s))
   turn_by true true idle over =
       let none : length here ≡ 0 = simp length-drop (omega (arith, leb-true (length t) s.at over)) in
       (rw idle) ∙ none_left s.probe here none
@@ -83,37 +94,36 @@ event_at_holds s at (Hold pins rxd n) = refl
 event_at_holds s at (event.Access a) = refl
 
 module _ (t : List ℕ) (s : Waves) where
-  event_moves : (e : Event) (n why : ℕ) → 0 < n → s.at < length t → (go : Bool) →
-      goes (cond go (event_on s (s.at + n) e) (turned s (outcome.Stopped why))).outcome ≡ true →
-      Moves t s (cond go (event_on s (s.at + n) e) (turned s (outcome.Stopped why))).state
-  event_moves e n why some lt true is = byte (omega (arith, event_at_holds s (s.at + n) e)) lt
-  event_moves e n why some lt false is = absurd (never (outcome.Stopped why) refl is)
+  event_moves : (e : Event) (n : ℕ) (why : Option Stop) → 0 < n → s.at < length t →
+      goes (event_or_stop s e n why).outcome ≡ true → Moves t s (event_or_stop s e n why).state
+  event_moves e n None some lt is = byte (omega (arith, event_at_holds s (s.at + n) e)) lt
+  event_moves e n (Some why) some lt is = absurd (never (Err why) refl is)
 
   record_moves : (r : Parsed) → parsed (drop s.at t) ≡ r → s.at < length t → goes (record_on s r).outcome ≡ true → Moves t s (record_on s r).state
   record_moves (Record e n) here lt is =
-      event_moves e n (stops s.probe e) (record_within (drop s.at t) here).0 lt (eqb (stops s.probe e) 0) is
-  record_moves Unknown here lt is = absurd (never (outcome.Stopped 5) refl is)
-  record_moves Cut here lt is = absurd (never (outcome.Stopped 6) refl is)
+      event_moves e n (stop_at s.probe e) (record_within (drop s.at t) here).0 lt is
+  record_moves Unknown here lt is = absurd (never (Err stop.UnknownKind) refl is)
+  record_moves Cut here lt is = absurd (never (Err stop.CutRecord) refl is)
 
   for_moves : 0 < s.left → (k : ℕ) (few : Bool) →
       Moves t s
-      (cond few (turned (record { at = s.at; left = 0; probe = ahead s.probe s.left }) outcome.Nothing)
+      (cond few (turned (record { at = s.at; left = 0; probe = ahead s.probe s.left }) (Ok None))
       (moved s.at (s.left - k - 1) (ahead s.probe k) (tick (ahead s.probe k)) 0)
       ).state
   for_moves some k true = clock refl some
   for_moves some k false = clock refl (omega arith)
 
   hold_moves : 0 < s.left → (over : Bool) →
-      goes (cond over (turned s (outcome.Stopped 10)) (hold_for s (calm s.probe))).outcome ≡ true →
-      Moves t s (cond over (turned s (outcome.Stopped 10)) (hold_for s (calm s.probe))).state
-  hold_moves some true is = absurd (never (outcome.Stopped 10) refl is)
+      goes (cond over (turned s (Err stop.ClockLimit)) (hold_for s (calm s.probe))).outcome ≡ true →
+      Moves t s (cond over (turned s (Err stop.ClockLimit)) (hold_for s (calm s.probe))).state
+  hold_moves some true is = absurd (never (Err stop.ClockLimit) refl is)
   hold_moves some false is = for_moves some (calm s.probe) (leb s.left (calm s.probe))
 
   moves_by : (idle over : Bool) → eqb s.left 0 ≡ idle → leb (length t) s.at ≡ over →
-      goes (cond idle (cond over (turned s outcome.Ended) (record_on s (parsed (drop s.at t)))) (hold_on s)).outcome ≡ true →
-      Moves t s (cond idle (cond over (turned s outcome.Ended) (record_on s (parsed (drop s.at t)))) (hold_on s)).state
+      goes (cond idle (cond over (turned s (Err stop.End)) (record_on s (parsed (drop s.at t)))) (hold_on s)).outcome ≡ true →
+      Moves t s (cond idle (cond over (turned s (Err stop.End)) (record_on s (parsed (drop s.at t)))) (hold_on s)).state
   unfolding hold_on
-  moves_by true true idle over is = absurd (never outcome.Ended refl is)
+  moves_by true true idle over is = absurd (never (Err stop.End) refl is)
   moves_by true false idle over is = record_moves (parsed (drop s.at t)) refl (leb-false (length t) s.at over) is
   moves_by false past idle over is = hold_moves (omega (arith, eqb-false s.left 0 idle)) (limited s.probe s.left) is
 
@@ -155,30 +165,29 @@ module _ (t : List ℕ) (bytes : Bytes t) (s : Waves) (few : s.left < 2 ^ 32) wh
   event_left at (Hold pins rxd n) k h = h
   event_left at (event.Access a) k h = omega arith
 
-  stop_left : (e : Event) (n why : ℕ) → Small (Record e n) → (go : Bool) →
-      (cond go (event_on s (s.at + n) e) (turned s (outcome.Stopped why))).state.left < 2 ^ 32
-  stop_left e n why h true = event_left (s.at + n) e n h
-  stop_left e n why h false = few
+  stop_left : (e : Event) (n : ℕ) (why : Option Stop) → Small (Record e n) → (event_or_stop s e n why).state.left < 2 ^ 32
+  stop_left e n None h = event_left (s.at + n) e n h
+  stop_left e n (Some why) h = few
 
   record_left : (r : Parsed) → Small r → (record_on s r).state.left < 2 ^ 32
-  record_left (Record e n) h = stop_left e n (stops s.probe e) h (eqb (stops s.probe e) 0)
+  record_left (Record e n) h = stop_left e n (stop_at s.probe e) h
   record_left Unknown h = few
   record_left Cut h = few
 
   for_left : (k : ℕ) (most : Bool) →
-      (cond most (turned (record { at = s.at; left = 0; probe = ahead s.probe s.left }) outcome.Nothing)
+      (cond most (turned (record { at = s.at; left = 0; probe = ahead s.probe s.left }) (Ok None))
       (moved s.at (s.left - k - 1) (ahead s.probe k) (tick (ahead s.probe k)) 0)
       ).state.left
       < 2 ^ 32
   for_left k true = omega arith
   for_left k false = omega (arith, few)
 
-  hold_left : (over : Bool) → (cond over (turned s (outcome.Stopped 10)) (hold_for s (calm s.probe))).state.left < 2 ^ 32
+  hold_left : (over : Bool) → (cond over (turned s (Err stop.ClockLimit)) (hold_for s (calm s.probe))).state.left < 2 ^ 32
   hold_left true = few
   hold_left false = for_left (calm s.probe) (leb s.left (calm s.probe))
 
   left_by : (idle over : Bool) →
-      (cond idle (cond over (turned s outcome.Ended) (record_on s (parsed (drop s.at t)))) (hold_on s)).state.left < 2 ^ 32
+      (cond idle (cond over (turned s (Err stop.End)) (record_on s (parsed (drop s.at t)))) (hold_on s)).state.left < 2 ^ 32
   unfolding hold_on
   left_by true true = few
   left_by true false =
@@ -192,11 +201,10 @@ module _ (t : List ℕ) (bytes : Bytes t) (s : Waves) (few : s.left < 2 ^ 32) wh
 
 -- ---- turns over and over
 
-by_outcome : (o : Outcome) (x y : Drawn) → (goes o ≡ true → x ≡ y) → telling o x ≡ telling o y
-by_outcome outcome.Nothing x y same = same refl
-by_outcome (outcome.Drawn d) x y same = ap (followed (d ∷ [])) (same refl)
-by_outcome (outcome.Stopped why) x y same = refl
-by_outcome outcome.Ended x y same = refl
+by_outcome : (o : Result (Option Step) Stop) (x y : Drawn) → (goes o ≡ true → x ≡ y) → telling o x ≡ telling o y
+by_outcome (Ok None) x y same = same refl
+by_outcome (Ok (Some d)) x y same = ap (followed (d ∷ [])) (same refl)
+by_outcome (Err why) x y same = refl
 
 pub whole_turns : Whole
 unfolding over_and_over

@@ -1,5 +1,5 @@
 -- Turns, over and over, give the changes of the whole trace, each at its own clock.
-use Rattle.std.specs.Prelude.{◌≡◌, Bool, true, false, cond, List, [], ◌∷◌, ◌++◌, ℕ, zero, suc, ◌+◌, ◌-◌, ◌*◌, ◌/◌, ◌%◌, ◌^◌, ◌<◌, ◌≤◌, eqb, length, drop}
+use Rattle.std.specs.Prelude.{◌≡◌, Bool, true, false, cond, Option, Some, None, Result, Ok, Err, List, [], ◌∷◌, ◌++◌, ℕ, zero, suc, ◌+◌, ◌-◌, ◌*◌, ◌/◌, ◌%◌, ◌^◌, ◌<◌, ◌≤◌, eqb, length, drop}
 use Rattle.steps.specs.Iterate.{iterate}
 use Rattle.qspi.specs.model.Entry.{with_place}
 use Rattle.qspi.specs.model.Parts.{with_entry}
@@ -15,9 +15,10 @@ use Rattle.until_change.specs.declared.Look.{Look}
 use Rattle.tool_wave.specs.View.{none}
 use Rattle.tool_wave.specs.Probe.{view_of, ends, tick, limited}
 use Rattle.tool_wave.specs.Drawn.{step_to, ticks, after, stops, Drawn, stopped, followed, drawn_from, changes}
+use Rattle.tool_wave.specs.Stop.{number_of}
 use Rattle.tool_wave.specs.Turn.{begun, turn}
-use Rattle.tool_wave.specs.declared.Outcome.{Outcome}
-use Rattle.tool_wave.specs.declared.Outcome.TheVariants as told
+use Rattle.tool_wave.specs.declared.Step.{Step}
+use Rattle.tool_wave.specs.declared.Stop.{Stop}
 use Rattle.tool_wave.specs.declared.probe.Probe.{Probe}
 use Rattle.tool_wave.specs.declared.Waves.{Waves}
 
@@ -29,11 +30,10 @@ meant t s =
     (followed (ticks s.left s.probe) (drawn_from (iterate s.left tick s.probe) (drop s.at t))))
 
 -- What a turn told, and then what came after it.
-abbrev pub telling : Outcome → Drawn → Drawn
-telling told.Nothing rest = rest
-telling (told.Drawn s) rest = followed (s ∷ []) rest
-telling (told.Stopped why) rest = stopped why
-telling told.Ended rest = stopped 0
+abbrev pub telling : Result (Option Step) Stop → Drawn → Drawn
+telling (Ok None) rest = rest
+telling (Ok (Some s)) rest = followed (s ∷ []) rest
+telling (Err why) rest = stopped (number_of why)
 
 -- At most so many turns, each from the state that the one before it left.
 unfoldable pub over_and_over : ℕ → List ℕ → Waves → Drawn
@@ -57,11 +57,9 @@ abbrev pub FromStart : Type 0
 FromStart = (t : List ℕ) → meant t begun ≡ changes t
 
 -- A trace in pieces: a turn that goes on is the same with more bytes behind, and bytes before its place can be left out.
-abbrev pub goes : Outcome → Bool
-goes told.Nothing = true
-goes (told.Drawn s) = true
-goes (told.Stopped why) = false
-goes told.Ended = false
+abbrev pub goes : Result (Option Step) Stop → Bool
+goes (Ok told) = true
+goes (Err why) = false
 
 abbrev pub Grows : Type 0
 Grows = (t more : List ℕ) (s : Waves) → goes (turn t s).outcome ≡ true → turn (t ++ more) s ≡ turn t s

@@ -1,4 +1,5 @@
 pub mod View
+pub mod Stop
 pub mod Probe
 pub mod Drawn
 pub mod Turn

@@ -2,6 +2,7 @@
 #![tactic(auto)]
 
 ghost use Rattle.std.specs.Prelude.{◌≡◌};
+ghost use Rattle.tool_wave.specs.Stop.{number_of};
 ghost use Rattle.tool_wave.specs.Turn.{begun, turn};
 
 pub mod claims;
@@ -30,19 +31,30 @@ pub struct Step {
     pub refusal: u8,
 }
 
-// What there is to tell: nothing; a change; the refusal that stopped the trace; its end.
-#[derive(Clone, Copy)]
-pub enum Outcome {
-    Nothing,
-    Drawn(Step),
-    Stopped(u8),
-    Ended,
+// Why there is no turn more: the end of the trace, or the refusal that stopped it.
+#[derive(Clone, Copy, PartialEq, Eq)]
+pub enum Stop {
+    End = 0,
+    UnknownKind = 5,
+    CutRecord = 6,
+    ClockLimit = 10,
 }
 
+// Its number.
+// Ruled out: the number of another; a number for the end.
+impl From<Stop> for u8 {
+    ghost from_gives = { λ s n. n ≡ number_of s };
+
+    fn from(stop: Stop) -> u8 {
+        stop as u8
+    }
+}
+
+// What a turn leaves, and what there is to tell: a change or none, or why there is no turn more.
 #[derive(Clone, Copy)]
 pub struct Turned {
     pub state: Waves,
-    pub outcome: Outcome,
+    pub outcome: Result<Option<Step>, Stop>,
 }
 
 // At the start of a trace.

@@ -1,24 +1,23 @@
 // A turn: the hold under way up to its next change or its end, or the next record.
 ghost use Rattle.std.specs.Prelude.{◌≡◌, false, ◌+◌, ◌^◌, ◌<◌};
 ghost use Rattle.tool_wave.specs.Probe.{limited, ahead};
-ghost use Rattle.tool_wave.specs.Drawn.{stops};
-ghost use Rattle.tool_wave.specs.Turn.{turned, told, moved, event_on, event_or_stop, size_of, record_on, hold_for, hold_on, turn};
+ghost use Rattle.tool_wave.specs.Turn.{turned, told, moved, stop_at, event_on, event_or_stop, size_of, record_on, hold_for, hold_on, turn};
 
 use crate::probe::Probe;
-use crate::{Outcome, Step, Turned, Waves};
+use crate::{Step, Stop, Turned, Waves};
 use qsm::event::Event;
 use trace::Parsed;
 
 // The change from one probe to the next, with an access's refusal; nothing where all is drawn as before and nothing was refused.
-fn told(from: Probe, to: Probe, refusal: u8) -> Outcome
+fn told(from: Probe, to: Probe, refusal: u8) -> Option<Step>
     ensures { result ≡ told from to refusal }
 {
     let before = from.view();
     let after = to.view();
     if before == after && refusal == 0 {
-        return Outcome::Nothing;
+        return None;
     }
-    Outcome::Drawn(Step {
+    Some(Step {
         clock: to.clock,
         before,
         after,
@@ -26,21 +25,20 @@ fn told(from: Probe, to: Probe, refusal: u8) -> Outcome
     })
 }
 
-// The refusal that an event stops the trace with, before it, or 0.
-fn stops(p: Probe, e: Event) -> u8
-    ensures { result ≡ stops p e }
+// Why an event stops the trace, before it.
+fn stop_at(p: Probe, e: Event) -> Option<Stop>
+    ensures { result ≡ stop_at p e }
 {
     match e {
-        Event::Reset => 0,
-        Event::Hold(_, _, n) => steps::choose(p.limited(n), 10, 0),
-        Event::Access(_) => 0,
+        Event::Hold(_, _, n) if p.limited(n) => Some(Stop::ClockLimit),
+        _ => None,
     }
 }
 
 fn moved(at: usize, left: u32, from: Probe, to: Probe, refusal: u8) -> Turned
     ensures { result ≡ moved at left from to refusal }
 {
-    let outcome = told(from, to, refusal);
+    let outcome = Ok(told(from, to, refusal));
     let state = Waves {
         at,
         left,
@@ -50,7 +48,7 @@ fn moved(at: usize, left: u32, from: Probe, to: Probe, refusal: u8) -> Turned
 }
 
 impl Waves {
-    fn turned(self, outcome: Outcome) -> Turned
+    fn turned(self, outcome: Result<Option<Step>, Stop>) -> Turned
         ensures { result ≡ turned self outcome }
     {
         Turned {
@@ -76,14 +74,13 @@ impl Waves {
         }
     }
 
-    fn event_or_stop(self, e: Event, n: usize, why: u8) -> Turned
+    fn event_or_stop(self, e: Event, n: usize, why: Option<Stop>) -> Turned
         requires { self.at + n < 2 ^ 64 }
         ensures { result ≡ event_or_stop self e n why }
     {
-        if why == 0 {
-            self.event_on(self.at + n, e)
-        } else {
-            self.turned(Outcome::Stopped(why))
+        match why {
+            Some(why) => self.turned(Err(why)),
+            None => self.event_on(self.at + n, e),
         }
     }
 
@@ -94,10 +91,10 @@ impl Waves {
         match p {
             Parsed::Record(e, n) => {
                 let probe = self.probe;
-                self.event_or_stop(e, n, stops(probe, e))
+                self.event_or_stop(e, n, stop_at(probe, e))
             }
-            Parsed::Unknown => self.turned(Outcome::Stopped(5)),
-            Parsed::Cut => self.turned(Outcome::Stopped(6)),
+            Parsed::Unknown => self.turned(Err(Stop::UnknownKind)),
+            Parsed::Cut => self.turned(Err(Stop::CutRecord)),
         }
     }
 
@@ -123,7 +120,7 @@ impl Waves {
         let p = self.probe;
         let left = self.left;
         if left <= calm {
-            return self.hold_out().turned(Outcome::Nothing);
+            return self.hold_out().turned(Ok(None));
         }
         let q = p.ahead(calm);
         moved(self.at, left - calm - 1, q, q.tick(), 0)
@@ -134,7 +131,7 @@ impl Waves {
     {
         let p = self.probe;
         if p.limited(self.left) {
-            return self.turned(Outcome::Stopped(10));
+            return self.turned(Err(Stop::ClockLimit));
         }
         self.hold_for(p.calm())
     }
@@ -148,7 +145,7 @@ impl Waves {
         }
         let at = self.at;
         if trace.len() <= at {
-            return self.turned(Outcome::Ended);
+            return self.turned(Err(Stop::End));
         }
         let p = trace::parse(&trace[at..]);
         self.record_on(p)

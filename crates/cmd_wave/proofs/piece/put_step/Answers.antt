@@ -1,20 +1,8 @@
-use Rattle.cmd_wave.proofs.Telling.{shown, none}
+use Rattle.cmd_wave.proofs.Telling.{none}
 use Rattle.cmd_wave.proofs.piece.put_step.Goals as goal
 
-pub returns-in-Nothing : goal.returns-in-Nothing
-returns-in-Nothing c =
-    let args = c.args in
-    rw c.in-Nothing.is (none args.out args.buf.now)
+pub returns-in_default : goal.returns-in_default
+returns-in_default c = rw c.in_default.is (none c.args.out c.args.buf.now)
 
-pub returns-in-Drawn : goal.returns-in-Drawn
-returns-in-Drawn c = rw c.in-Drawn.is (rw (shown _ _ c.step_text.ensures) at c.put_line.ensures)
-
-pub returns-in-Stopped : goal.returns-in-Stopped
-returns-in-Stopped c =
-    let args = c.args in
-    rw c.in-Stopped.is (none args.out args.buf.now)
-
-pub returns-in-Ended : goal.returns-in-Ended
-returns-in-Ended c =
-    let args = c.args in
-    rw c.in-Ended.is (none args.out args.buf.now)
+pub returns-in-None : goal.returns-in-None
+returns-in-None c = rw (c.in-Ok.is, c.in-None.is) (none c.args.out c.args.buf.now)

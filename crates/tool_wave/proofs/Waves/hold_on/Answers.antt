@@ -1,6 +1,7 @@
 use mathlib.Core.Bool.{Bool, cond}
 use Rattle.tool_wave.specs.Probe.{calm}
-use Rattle.tool_wave.specs.declared.Outcome.TheVariants.{Stopped}
+use Rattle.std.specs.Prelude.{Err}
+use Rattle.tool_wave.specs.declared.Stop.TheVariants.{ClockLimit}
 use mathlib.Core.Path.{◌∙◌, sym, ap}
 use Rattle.tool_wave.specs.Turn.{turned, hold_for, hold_on}
 use Rattle.tool_wave.proofs.Waves.hold_on.Goals as goal
@@ -18,5 +19,5 @@ returns c =
     let self = c.args.self in
     c.hold_for.ensures
     ∙ ap (hold_for self) c.calm.ensures
-    ∙ sym (ap (λ (b : Bool). cond b (turned self (Stopped 10)) (hold_for self (calm self.probe)))
+    ∙ sym (ap (λ (b : Bool). cond b (turned self (Err ClockLimit)) (hold_for self (calm self.probe)))
     (sym c.limited.ensures ∙ c.if-limited.false))
