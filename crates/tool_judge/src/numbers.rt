@@ -4,7 +4,6 @@ ghost use Rattle.tool_judge.specs.Judge.{judged};
 ghost use Rattle.tool_judge.specs.Numbers.{number_of, field_of, in_numbers};
 
 use crate::Verdict;
-use answers::field_number;
 
 // The number of the first wrong answer and of its first wrong field, both 0 where the log is accepted; and the refusal that stopped the trace
 // or 0.
@@ -30,7 +29,7 @@ fn field_of(v: Verdict) -> u8
 {
     match v {
         Verdict::Accepted => 0,
-        Verdict::Wrong(_, f) => field_number(f),
+        Verdict::Wrong(_, f) => u8::from(f),
     }
 }
 
