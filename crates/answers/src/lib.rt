@@ -95,18 +95,20 @@ pub fn field_at(i: usize) -> Field
 }
 
 // Ruled out: numbers from 0 on; one number for two fields.
-pub fn field_number(f: Field) -> u8
-    ensures { result ≡ field_number f }
-{
-    match f {
-        Field::Kind => 1,
-        Field::Refusal => 2,
-        Field::Value => 4,
-        Field::Levels => 8,
-        Field::Mask => 16,
-        Field::Level => 32,
-        Field::Vector => 64,
-        Field::Clock => 128,
+impl From<Field> for u8 {
+    ghost from_gives = { λ f number. number ≡ field_number f };
+
+    fn from(f: Field) -> u8 {
+        match f {
+            Field::Kind => 1,
+            Field::Refusal => 2,
+            Field::Value => 4,
+            Field::Levels => 8,
+            Field::Mask => 16,
+            Field::Level => 32,
+            Field::Vector => 64,
+            Field::Clock => 128,
+        }
     }
 }
 
@@ -123,24 +125,10 @@ pub fn bytes_of(
 ) -> [u8; 18]
     ensures { result ≡ bytes_of refusal value levels mask level vector clock }
 {
+    let value = value.to_be_bytes();
+    let clock = clock.to_be_bytes();
     [
-        CLOCKED,
-        refusal,
-        (value / 16777216 % 256) as u8,
-        (value / 65536 % 256) as u8,
-        (value / 256 % 256) as u8,
-        (value % 256) as u8,
-        levels,
-        mask,
-        level,
-        vector,
-        (clock / 72057594037927936 % 256) as u8,
-        (clock / 281474976710656 % 256) as u8,
-        (clock / 1099511627776 % 256) as u8,
-        (clock / 4294967296 % 256) as u8,
-        (clock / 16777216 % 256) as u8,
-        (clock / 65536 % 256) as u8,
-        (clock / 256 % 256) as u8,
-        (clock % 256) as u8,
+        CLOCKED, refusal, value[0], value[1], value[2], value[3], levels, mask, level, vector,
+        clock[0], clock[1], clock[2], clock[3], clock[4], clock[5], clock[6], clock[7],
     ]
 }

@@ -20,18 +20,10 @@ fn word(text: &[u8], w: u16) {
 
 // All seven pins assigned, MISO the only input, at MOSI's level.
 fn wired(q: Qspi) -> Pins {
-    if q.mosi() {
-        Pins {
-            levels: 1,
-            pqspar: 0x7B,
-            ddrqs: 0x7E,
-        }
-    } else {
-        Pins {
-            levels: 0,
-            pqspar: 0x7B,
-            ddrqs: 0x7E,
-        }
+    Pins {
+        levels: u8::from(q.mosi()),
+        pqspar: 0x7B,
+        ddrqs: 0x7E,
     }
 }
 
@@ -50,10 +42,8 @@ fn next(q: Qspi) -> Qspi {
 
 fn clocks(q: Qspi, n: u32) -> Qspi {
     let mut r = q;
-    let mut i: u32 = 0;
-    while i < n {
+    for _ in 0..n {
         r = next(r);
-        i += 1;
     }
     r
 }
@@ -71,24 +61,28 @@ fn digit(d: u8) {
     io::write_all(1, &c);
 }
 
-// What a line shows: 0 SCK, 1 MOSI, 2 the PCS, over PORTQS 78.
-fn shown(q: Qspi, line: u8) -> u8 {
-    if line == 0 {
-        return if q.sck() { 1 } else { 0 };
-    }
-    if line == 1 {
-        return if q.mosi() { 1 } else { 0 };
-    }
-    q.pcs(0x78)
+// What is drawn of the queue's lines.
+#[derive(Clone, Copy)]
+enum Line {
+    Sck,
+    Mosi,
+    Pcs,
 }
 
-fn draw(q: Qspi, line: u8, n: u32) {
+// What a line shows, the PCS over PORTQS 78.
+fn shown(q: Qspi, line: Line) -> u8 {
+    match line {
+        Line::Sck => u8::from(q.sck()),
+        Line::Mosi => u8::from(q.mosi()),
+        Line::Pcs => q.pcs(0x78),
+    }
+}
+
+fn draw(q: Qspi, line: Line, n: u32) {
     let mut r = q;
-    let mut i: u32 = 0;
-    while i < n {
+    for _ in 0..n {
         r = next(r);
         digit(shown(r, line));
-        i += 1;
     }
     say(b"\n");
 }
@@ -96,15 +90,13 @@ fn draw(q: Qspi, line: u8, n: u32) {
 // The clock in which SPIF rises, or 40,000.
 fn finish(q: Qspi) -> u32 {
     let mut r = q;
-    let mut i: u32 = 0;
-    while i < 40000 {
+    for i in 0..40000 {
         if r.spsr.flags.spif {
             return i;
         }
         r = next(r);
-        i += 1;
     }
-    i
+    40000
 }
 
 fn ended(before: Qspi, after: Qspi) {
@@ -116,12 +108,10 @@ fn ended(before: Qspi, after: Qspi) {
 // CPTQP each time that an entry ends.
 fn order(q: Qspi, n: u32) -> Qspi {
     let mut r = q;
-    let mut i: u32 = 0;
-    while i < n {
+    for _ in 0..n {
         let s = next(r);
         ended(r, s);
         r = s;
-        i += 1;
     }
     say(b"\n");
     r
@@ -135,10 +125,8 @@ fn with_entry(q: Qspi, i: u8, w: u16, command: u8) -> Qspi {
 
 fn with_entries(q: Qspi, w: u16, command: u8) -> Qspi {
     let mut r = q;
-    let mut i: u8 = 0;
-    while i < 16 {
+    for i in 0..16 {
         r = with_entry(r, i, w, command);
-        i += 1;
     }
     r
 }
@@ -154,8 +142,8 @@ fn set_up(q: Qspi, spcr0: u16, spcr2: u16, spcr1: u16) -> Qspi {
 fn mode(text: &[u8], spcr0: u16) {
     let q = set_up(with_entries(Qspi::reset(), 0xA5, 0x0E), spcr0, 0, 0x8404);
     say(text);
-    draw(q, 0, 34);
-    draw(q, 1, 34);
+    draw(q, Line::Sck, 34);
+    draw(q, Line::Mosi, 34);
     word(b"stored ", clocks(q, 40).receive_word(0));
     say(b"\n");
 }
@@ -189,11 +177,11 @@ fn chain() {
     let one = with_entry(Qspi::reset(), 0, 0, 0x8E);
     let q = set_up(with_entry(one, 1, 0, 0x0D), 0x8002, 0x0100, 0x8404);
     say(b"CONT, then plain\n");
-    draw(q, 2, 90);
+    draw(q, Line::Pcs, 90);
     let two = with_entry(Qspi::reset(), 0, 0, 0x0E);
     let r = set_up(with_entry(two, 1, 0, 0x8D), 0x8002, 0x0100, 0x8404);
     say(b"plain, then CONT\n");
-    draw(r, 2, 90);
+    draw(r, Line::Pcs, 90);
 }
 
 fn wrap(text: &[u8], spcr2: u16) {
@@ -280,8 +268,8 @@ fn slow(text: &[u8], spcr0: u16) {
     word(text, q.spcr1());
     word(b", SPSR ", q.spcr3_spsr());
     say(b", SCK and MOSI ");
-    digit(shown(q, 0));
-    digit(shown(q, 1));
+    digit(shown(q, Line::Sck));
+    digit(shown(q, Line::Mosi));
     say(b"\n");
 }
 

@@ -26,11 +26,11 @@ use Rattle.qsm.proofs.Clocks.{counting, apart}
 
 -- Quiet clocks of the queue, and of the serial half.
 pub quiet_entry : (k : ℕ) (q : Qspi) →
-    with_entry q (entry_held q.entry (held_of true (queue.skipped k q).entry)) ≡ queue.skipped k q
+    with_entry q (entry_held q.entry (held_of (queue.skipped k q).entry)) ≡ queue.skipped k q
 unfolding queue.skipped
 quiet_entry k q = go ((ltb 0 k && spe q.registers.spcr1) && (q.entry.playing || q.entry.delaying))
   where
-    go : (b : Bool) → with_entry q (entry_held q.entry (held_of true (queue.skipped_if b k q).entry)) ≡ queue.skipped_if b k q
+    go : (b : Bool) → with_entry q (entry_held q.entry (held_of (queue.skipped_if b k q).entry)) ≡ queue.skipped_if b k q
     go true = refl
     go false = refl
 

@@ -122,25 +122,27 @@ pub fn hold(m: Module, pins: u8, rxd: bool, clocks: u32) -> Stepped
         refusal = 0;
         state.inputs = pins;
         state.clock += clocks as u64;
-        let queue = queue_held(m.qspi, clocks, levels);
-        if queue.short {
-            state.qspi.entry.left = queue.left;
-            state.qspi.entry.edges = queue.edges;
-            state.qspi.entry.mosi = queue.mosi;
-            state.qspi.entry.collected = queue.collected;
-            state.qspi.entry.selecting = queue.selecting;
-        } else {
-            let qspi = m.qspi;
-            let after = qspi.clocks(clocks, levels);
-            state.qspi = after;
+        match queue_held(m.qspi, clocks, levels) {
+            Some(held) => {
+                state.qspi.entry.left = held.left;
+                state.qspi.entry.edges = held.edges;
+                state.qspi.entry.mosi = held.mosi;
+                state.qspi.entry.collected = held.collected;
+                state.qspi.entry.selecting = held.selecting;
+            }
+            None => {
+                let qspi = m.qspi;
+                let after = qspi.clocks(clocks, levels);
+                state.qspi = after;
+            }
         }
-        let serial = serial_held(m.sci, clocks, rxd);
-        if serial.short {
-            state.sci.prescaler = serial.count;
-        } else {
-            let sci = m.sci;
-            let after = sci.clocks(clocks, rxd);
-            state.sci = after;
+        match serial_held(m.sci, clocks, rxd) {
+            Some(count) => state.sci.prescaler = count,
+            None => {
+                let sci = m.sci;
+                let after = sci.clocks(clocks, rxd);
+                state.sci = after;
+            }
         }
     }
     let answer = answer_of(outputs_of(state), asked_of(state), state.clock, refusal, 0);

@@ -5,7 +5,7 @@ use Prim.Native.Nat.{ℕ, ◌+◌, ◌-◌, ◌%◌, ◌≤◌, ◌<◌}
 use native.Mathlib.Omega.{arith}
 use Rattle.steps.specs.Iterate.{iterate}
 use Rattle.steps.proofs.Iterate.{iterate_add, iterate_period}
-use Rattle.qspi.specs.quick.Same.{Decides}
+use Rattle.std.specs.Bool.{Decides}
 use Rattle.qspi.specs.model.Queue.{clock}
 use Rattle.qspi.specs.claims.Laws.{PeriodOut}
 use Rattle.qspi.specs.declared.Qspi.{Qspi}
@@ -31,7 +31,7 @@ module _ (f : Qspi → Qspi) where
   pub rested : (again : Bool) (left p : ℕ) (q saved : Qspi) → Decides again (q ≡ saved) → 0 < p → iterate p f saved ≡ q →
       iterate (cond again (left % p) left) f q ≡ iterate left f q
   rested true left p q saved same some here =
-      sym (iterate_period left p f q some (ap (iterate p f) (same.yes refl) ∙ here))
+      sym (iterate_period left p f q some (ap (iterate p f) (same.0 refl) ∙ here))
   rested false left p q saved same some here = refl
 
   -- A state just saved.

@@ -32,7 +32,7 @@ fn less(left: u16, k: u32) -> u16
 fn at_least_one(left: u16) -> u32
     ensures { result ≡ at_least_one left }
 {
-    choose(left <= 1, 1, left) as u32
+    left.max(1) as u32
 }
 
 impl Entry {

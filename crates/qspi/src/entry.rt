@@ -7,7 +7,7 @@ use crate::registers::Registers;
 use steps::choose;
 
 #[repr(C)]
-#[derive(Clone, Copy)]
+#[derive(Clone, Copy, PartialEq, Eq)]
 pub struct Entry {
     // What clock 1 took: the transmit word and the command.
     pub word: u16,

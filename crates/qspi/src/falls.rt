@@ -32,12 +32,9 @@ fn reads_by(cpha: bool, j: u8) -> u8
 fn collected_since(cpha: bool, from: u8, j: u8, miso: bool, collected: u16) -> u16
     ensures { result ≡ collected_since cpha from j miso collected }
 {
-    let last = reads_by(cpha, j);
     let mut c = collected;
-    let mut at = reads_by(cpha, from);
-    while at < last {
+    for _ in reads_by(cpha, from)..reads_by(cpha, j) {
         c = pushed(c, miso);
-        at += 1;
     }
     c
 }

@@ -23,7 +23,7 @@ use crate::spsr::Spsr;
 
 // What is read and written: the registers, SPSR and the queue RAM; and where the queue stands: what comes next, and the entry under way.
 #[repr(C)]
-#[derive(Clone, Copy)]
+#[derive(Clone, Copy, PartialEq, Eq)]
 pub struct Qspi {
     pub registers: Registers,
     pub spsr: Spsr,

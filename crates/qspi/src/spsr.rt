@@ -1,6 +1,5 @@
 // SPSR: SPIF, MODF and HALTA, how they are seen and fall, and CPTQP.
-ghost use Rattle.std.specs.Prelude.{◌≡◌, ◌≤◌};
-ghost use Rattle.steps.specs.Bits.{digit};
+ghost use Rattle.std.specs.Prelude.{◌≡◌};
 ghost use Rattle.qspi.specs.model.Spsr.{either, without, spsr_byte, flags_seen, falls, falling, fallen};
 
 #[repr(C)]
@@ -13,18 +12,11 @@ pub struct Flags {
 
 // The flags that are set, those that a read touching byte 1F saw while they were set, and CPTQP.
 #[repr(C)]
-#[derive(Clone, Copy)]
+#[derive(Clone, Copy, PartialEq, Eq)]
 pub struct Spsr {
     pub flags: Flags,
     pub seen: Flags,
     pub cptqp: u8,
-}
-
-fn digit(b: bool) -> u8
-    ensures value { result ≡ digit b }
-    ensures small { result ≤ 1 }
-{
-    if b { 1 } else { 0 }
 }
 
 fn falls(lower: bool, seen: bool, one: bool) -> bool
@@ -61,9 +53,9 @@ impl Spsr {
     pub fn byte(self) -> u8
         ensures { result ≡ spsr_byte self }
     {
-        digit(self.flags.spif) * 128
-            + digit(self.flags.modf) * 64
-            + digit(self.flags.halta) * 32
+        u8::from(self.flags.spif) * 128
+            + u8::from(self.flags.modf) * 64
+            + u8::from(self.flags.halta) * 32
             + self.cptqp % 16
     }
 

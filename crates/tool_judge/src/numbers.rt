@@ -4,7 +4,6 @@ ghost use Rattle.tool_judge.specs.Judge.{judged};
 ghost use Rattle.tool_judge.specs.Numbers.{in_numbers};
 
 use crate::Judged;
-use answers::field_number;
 
 // The number of the first wrong answer and of its first wrong field, both 0 where the log is accepted; and the refusal that stopped the trace
 // or 0.
@@ -28,7 +27,7 @@ impl From<Judged> for Judgement {
             },
             Err(wrong) => Judgement {
                 number: wrong.answer as u64,
-                field: field_number(wrong.field),
+                field: u8::from(wrong.field),
                 stop: j.stop,
             },
         }

@@ -1,12 +1,10 @@
 -- What a short hold changes of the entry under way, and the entry with it.
-use Rattle.std.specs.Prelude.{Bool}
 use Rattle.qspi.specs.declared.entry.Entry.{Entry}
 use Rattle.qsm.specs.declared.holding.QueueHeld.{QueueHeld}
 
-abbrev pub held_of : Bool → Entry → QueueHeld
-held_of short e =
+abbrev pub held_of : Entry → QueueHeld
+held_of e =
     record {
-      short = short;
       left = e.left;
       edges = e.edges;
       mosi = e.mosi;

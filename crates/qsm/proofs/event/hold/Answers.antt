@@ -13,7 +13,7 @@ use Rattle.qsm.proofs.Limit.{has_room}
 use Rattle.qsm.proofs.Straight.{shown}
 use Rattle.qsm.proofs.Brief.{refused_hold, played_hold}
 use Rattle.qsm.proofs.event.hold.Goals as goal
-use Rattle.qsm.proofs.event.hold.Goals.{then-not-passes+then-serial, then-queue, else-queue, then-not-passes+else-serial, else-not-passes}
+use Rattle.qsm.proofs.event.hold.Goals.{then-not-passes+in-Some-serial_held, in-Some, in-None, then-not-passes+in-None-serial_held, else-not-passes}
 
 pub overflow_add-state : goal.overflow_add-state
 overflow_add-state c =
@@ -26,28 +26,28 @@ returns c =
     let base = counting (held a.m a.pins) (a.m.clock + a.clocks) in
     shown (done c.if-not-passes.state c.if-not-passes.refusal 0) (holds a.m a.pins a.rxd a.clocks) _ _ _
     (elim c.if-not-passes.branch [
-      | then-not-passes+then-serial w ↦
+      | then-not-passes+in-Some-serial_held w ↦
           let room : passes a.m a.clocks ≡ false = sym c.passes.ensures ∙ w.if-not-passes.true in
-          let queued : w.if-queue.state ≡ with_qspi base (iterate a.clocks (λ q. clock q (pins_of (held a.m a.pins))) a.m.qspi) =
-          elim w.if-queue.branch [
-            | then-queue v ↦ v.state-is ∙ ap (with_qspi base) (w.queue_held-queue.ensures v.if-queue.true)
-            | else-queue v ↦ v.state-is ∙ ap (with_qspi base) v.clocks-after.ensures
+          let queued : w.match-queue_held.state ≡ with_qspi base (iterate a.clocks (λ q. clock q (pins_of (held a.m a.pins))) a.m.qspi) =
+          elim w.match-queue_held.branch [
+            | in-Some v ↦ v.state-is ∙ ap (with_qspi base) v.in-Some.ensures
+            | in-None v ↦ v.state-is ∙ ap (with_qspi base) v.clocks-after.ensures
           ] in
-          let sampled : c.if-not-passes.state ≡ with_sci w.if-queue.state (iterate a.clocks (λ s. clocked s a.rxd) a.m.sci) =
+          let sampled : c.if-not-passes.state ≡ with_sci w.match-queue_held.state (iterate a.clocks (λ s. clocked s a.rxd) a.m.sci) =
           w.state-is
-          ∙ ap (λ t. with_sci w.if-queue.state (with_count t.sci w.serial_held-serial.result.count)) queued
-          ∙ ap (with_sci w.if-queue.state) (w.serial_held-serial.ensures w.if-serial.true) in
-          rw w.refusal-is (played_hold a.m a.pins a.rxd a.clocks w.if-queue.state c.if-not-passes.state room queued sampled)
-      | then-not-passes+else-serial w ↦
+          ∙ ap (λ t. with_sci w.match-queue_held.state (with_count t.sci w.in-Some-serial_held.count)) queued
+          ∙ ap (with_sci w.match-queue_held.state) w.in-Some-serial_held.ensures in
+          rw w.refusal-is (played_hold a.m a.pins a.rxd a.clocks w.match-queue_held.state c.if-not-passes.state room queued sampled)
+      | then-not-passes+in-None-serial_held w ↦
           let room : passes a.m a.clocks ≡ false = sym c.passes.ensures ∙ w.if-not-passes.true in
-          let queued : w.if-queue.state ≡ with_qspi base (iterate a.clocks (λ q. clock q (pins_of (held a.m a.pins))) a.m.qspi) =
-          elim w.if-queue.branch [
-            | then-queue v ↦ v.state-is ∙ ap (with_qspi base) (w.queue_held-queue.ensures v.if-queue.true)
-            | else-queue v ↦ v.state-is ∙ ap (with_qspi base) v.clocks-after.ensures
+          let queued : w.match-queue_held.state ≡ with_qspi base (iterate a.clocks (λ q. clock q (pins_of (held a.m a.pins))) a.m.qspi) =
+          elim w.match-queue_held.branch [
+            | in-Some v ↦ v.state-is ∙ ap (with_qspi base) v.in-Some.ensures
+            | in-None v ↦ v.state-is ∙ ap (with_qspi base) v.clocks-after.ensures
           ] in
-          let sampled : c.if-not-passes.state ≡ with_sci w.if-queue.state (iterate a.clocks (λ s. clocked s a.rxd) a.m.sci) =
-          w.state-is ∙ ap (with_sci w.if-queue.state) w.clocks-after-else-serial.ensures in
-          rw w.refusal-is (played_hold a.m a.pins a.rxd a.clocks w.if-queue.state c.if-not-passes.state room queued sampled)
+          let sampled : c.if-not-passes.state ≡ with_sci w.match-queue_held.state (iterate a.clocks (λ s. clocked s a.rxd) a.m.sci) =
+          w.state-is ∙ ap (with_sci w.match-queue_held.state) w.clocks-after-in-None-serial_held.ensures in
+          rw w.refusal-is (played_hold a.m a.pins a.rxd a.clocks w.match-queue_held.state c.if-not-passes.state room queued sampled)
       | else-not-passes w ↦ rw (w.state-is, w.refusal-is) (refused_hold a.m a.pins a.rxd a.clocks (sym c.passes.ensures ∙ w.if-not-passes.false))
     ])
     c.outputs_of.ensures c.asked_of.ensures c.answer_of-answer.ensures
