@@ -2,10 +2,11 @@
 #![tactic(auto)]
 
 use answer::{missing_line, put_found, status};
+use console::command::Command;
 use console::message::say_line;
 use console::output::{Out, flush};
 use console::status::{Status, worse};
-use files::command::named_word;
+use files::command::{Command as Given, named_word};
 use files::message::{fail, say};
 use files::origin::Origin;
 use files::system::{Sink, System};
@@ -105,18 +106,19 @@ fn wanted<R: System>(rt: &R, from: usize) -> Number {
     parse_number(&word[..n])
 }
 
-// The command, whose words begin at an argument.
-pub fn run<R: System>(rt: &R, from: usize) -> Status {
-    let c = files::command::read_from(
-        rt,
-        from,
-        b"find",
-        b"",
-        b"",
-        3,
-        3,
-        b"usage: find TRACE INDEX NUMBER\n",
-        b"\
+// Its name, what may stand on its line, what it says of itself and what it does.
+struct FindCommand;
+
+impl Command for FindCommand {
+    const NAME: &'static [u8] = b"find";
+
+    const LEAST: usize = 3;
+
+    const MOST: usize = 3;
+
+    const USAGE: &'static [u8] = b"usage: find TRACE INDEX NUMBER\n";
+
+    const HELP: &'static [u8] = b"\
 Prints where a record of a trace starts, in bytes, how many resets came before it, and the record itself. Records are
 numbered from 0. INDEX is a file that index made of this trace or of a beginning of it: the trace is read from the mark
 before the record on, or from the last mark.
@@ -127,14 +129,22 @@ before the record on, or from the last mark.
 A record that is not there is refused on standard error: refusal 2. With an index of another trace the answer has no meaning.
 
 Exit status: 0 the record is printed, 1 there is no such record, 2 could not be done.
-",
-    );
-    if !c.go {
-        return worse(c.wrong, Status::Done);
+";
+
+    ghost LEAST = { 3 };
+
+    ghost MOST = { 3 };
+
+    fn answer<R: System>(rt: &R, from: usize, _: Given) -> Status {
+        let Number::Is(number) = wanted(rt, from) else {
+            say(b"find", b"NUMBER is no decimal number\n");
+            return Status::Failed;
+        };
+        by_marks(rt, from, number)
     }
-    let Number::Is(number) = wanted(rt, from) else {
-        say(b"find", b"NUMBER is no decimal number\n");
-        return Status::Failed;
-    };
-    by_marks(rt, from, number)
+}
+
+// The command, whose words begin at an argument.
+pub fn run<R: System>(rt: &R, from: usize) -> Status {
+    console::command::run::<FindCommand, R>(rt, from)
 }

@@ -3,10 +3,12 @@
 
 ghost use Rattle.std.specs.Prelude.{◌≡◌, min};
 
+use console::command::Command;
 use console::message::say_line;
 use console::output::{Out, flush};
-use console::status::{Status, worse};
+use console::status::Status;
 use ending::{status, stop_line};
+use files::command::Command as Given;
 use files::message::{fail, say, say_of};
 use files::origin::Origin;
 use files::system::{Sink, System};
@@ -103,18 +105,21 @@ fn by_period<R: System>(rt: &R, from: usize, noise: bool) -> Status {
     )
 }
 
-// The command, whose words begin at an argument.
-pub fn run<R: System>(rt: &R, from: usize) -> Status {
-    let c = files::command::read_from(
-        rt,
-        from,
-        b"lines",
-        b"--noise",
-        b"",
-        1,
-        2,
-        b"usage: lines [--noise] PERIOD [TRACE]\n",
-        b"\
+// Its name, what may stand on its line, what it says of itself and what it does.
+struct LinesCommand;
+
+impl Command for LinesCommand {
+    const NAME: &'static [u8] = b"lines";
+
+    const FIRST: &'static [u8] = b"--noise";
+
+    const LEAST: usize = 1;
+
+    const MOST: usize = 2;
+
+    const USAGE: &'static [u8] = b"usage: lines [--noise] PERIOD [TRACE]\n";
+
+    const HELP: &'static [u8] = b"\
 Replays a trace on a module fresh from reset, with polling put in: after every PERIOD
 clocks (1 to 65535) since the start or a reset, status is read, and data if RDRF or OR
 showed. Delivered words, their low 7 bits, are gathered into lines that end with a
@@ -142,10 +147,18 @@ on standard error, with its place in bytes:
   10  hold that would pass 2^64 - 1 clocks since reset
 
 Exit status: 0 no line was dropped, 1 a line was dropped or the trace stopped, 2 could not be done.
-",
-    );
-    if !c.go {
-        return worse(c.wrong, Status::Done);
+";
+
+    ghost LEAST = { 1 };
+
+    ghost MOST = { 2 };
+
+    fn answer<R: System>(rt: &R, from: usize, c: Given) -> Status {
+        by_period(rt, from, c.option)
     }
-    by_period(rt, from, c.option)
+}
+
+// The command, whose words begin at an argument.
+pub fn run<R: System>(rt: &R, from: usize) -> Status {
+    console::command::run::<LinesCommand, R>(rt, from)
 }

@@ -1,10 +1,12 @@
 // The command `replay`: a trace played on a module fresh from reset, from a file or from standard input, of any length, to a log on standard output.
 #![tactic(auto)]
 
+use console::command::Command;
 use console::message::say_line;
 use console::output::flush;
 use console::status::{Status, worse};
 use end::{put_end, status_of};
+use files::command::Command as Given;
 use files::message::{fail, say};
 use files::origin::Origin;
 use files::system::{Sink, System};
@@ -84,18 +86,23 @@ fn replay<R: System>(rt: &R, noise: bool, account: bool, from: &Origin, name: &[
     worse(out.failed | last.failed, status_of(next))
 }
 
-// The command, whose words begin at an argument.
-pub fn run<R: System>(rt: &R, from: usize) -> Status {
-    let c = files::command::read_from(
-        rt,
-        from,
-        b"replay",
-        b"--noise",
-        b"--account",
-        0,
-        1,
-        b"usage: replay [--noise] [--account] [TRACE]\n",
-        b"\
+// Its name, what may stand on its line, what it says of itself and what it does.
+struct ReplayCommand;
+
+impl Command for ReplayCommand {
+    const NAME: &'static [u8] = b"replay";
+
+    const FIRST: &'static [u8] = b"--noise";
+
+    const SECOND: &'static [u8] = b"--account";
+
+    const LEAST: usize = 0;
+
+    const MOST: usize = 1;
+
+    const USAGE: &'static [u8] = b"usage: replay [--noise] [--account] [TRACE]\n";
+
+    const HELP: &'static [u8] = b"\
 Plays a trace on a module fresh from reset and writes its log, 18 bytes for each
 record, to standard output. Without TRACE, or with -, it reads standard input.
 
@@ -122,16 +129,24 @@ others were read. The log is the same; both options may be given.
   taken 3, lost 2, waiting 1
 
 Exit status: 0 all answered, 1 the trace stopped, 2 could not be done.
-",
-    );
-    if !c.go {
-        return worse(c.wrong, Status::Done);
+";
+
+    ghost LEAST = { 0 };
+
+    ghost MOST = { 1 };
+
+    fn answer<R: System>(rt: &R, from: usize, c: Given) -> Status {
+        let mut name = io::buffer();
+        let i = files::input::open_from(rt, from, b"replay", 0, &mut name);
+        let n = i.name;
+        let Some(input) = i.from else {
+            return Status::Failed;
+        };
+        replay(rt, c.option, c.second, &input, &name[..n])
     }
-    let mut name = io::buffer();
-    let i = files::input::open_from(rt, from, b"replay", 0, &mut name);
-    let n = i.name;
-    let Some(input) = i.from else {
-        return Status::Failed;
-    };
-    replay(rt, c.option, c.second, &input, &name[..n])
+}
+
+// The command, whose words begin at an argument.
+pub fn run<R: System>(rt: &R, from: usize) -> Status {
+    console::command::run::<ReplayCommand, R>(rt, from)
 }

@@ -1,9 +1,11 @@
 // The command `show`: a log, or with --trace a trace, as text, a line an answer or record, from a file or from standard input, of any length.
 #![tactic(auto)]
 
+use console::command::Command;
 use console::message::say_line;
 use console::output::flush;
 use console::status::Status;
+use files::command::Command as Given;
 use files::message::{fail, say};
 use files::origin::Origin;
 use files::system::{Sink, System};
@@ -58,18 +60,21 @@ fn show<R: System>(rt: &R, traces: bool, from: &Origin, name: &[u8]) -> Status {
     report(traces, t)
 }
 
-// The command, whose words begin at an argument.
-pub fn run<R: System>(rt: &R, from: usize) -> Status {
-    let c = files::command::read_from(
-        rt,
-        from,
-        b"show",
-        b"--trace",
-        b"",
-        0,
-        1,
-        b"usage: show [LOG]\n       show --trace [TRACE]\n",
-        b"\
+// Its name, what may stand on its line, what it says of itself and what it does.
+struct ShowCommand;
+
+impl Command for ShowCommand {
+    const NAME: &'static [u8] = b"show";
+
+    const FIRST: &'static [u8] = b"--trace";
+
+    const LEAST: usize = 0;
+
+    const MOST: usize = 1;
+
+    const USAGE: &'static [u8] = b"usage: show [LOG]\n       show --trace [TRACE]\n";
+
+    const HELP: &'static [u8] = b"\
 Prints a log as text, a line for each answer; with --trace, a trace, a line for each
 record. Without a file, or with -, it reads standard input.
 
@@ -87,17 +92,25 @@ The refusals of an answer, each of which has changed nothing in the module:
   9 (not yours)       a driver that shares the module's queue has no right to what it asks
 What is no log or no trace is reported on standard error, with its number from 0 and its
 place in bytes; what came before it is printed.
-",
-    );
-    if !c.go {
-        return console::status::worse(c.wrong, Status::Done);
+";
+
+    ghost LEAST = { 0 };
+
+    ghost MOST = { 1 };
+
+    fn answer<R: System>(rt: &R, from: usize, c: Given) -> Status {
+        let traces = c.option;
+        let mut name = io::buffer();
+        let i = files::input::open_from(rt, from, b"show", 0, &mut name);
+        let n = i.name;
+        let Some(input) = i.from else {
+            return Status::Failed;
+        };
+        show(rt, traces, &input, &name[..n])
     }
-    let traces = c.option;
-    let mut name = io::buffer();
-    let i = files::input::open_from(rt, from, b"show", 0, &mut name);
-    let n = i.name;
-    let Some(input) = i.from else {
-        return Status::Failed;
-    };
-    show(rt, traces, &input, &name[..n])
+}
+
+// The command, whose words begin at an argument.
+pub fn run<R: System>(rt: &R, from: usize) -> Status {
+    console::command::run::<ShowCommand, R>(rt, from)
 }

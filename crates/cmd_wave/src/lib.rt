@@ -4,11 +4,12 @@
 ghost use Rattle.std.specs.Prelude.{◌≡◌};
 ghost use Rattle.cmd_wave.specs.Rate.{rate};
 
+use console::command::Command;
 use console::message::say_line;
 use console::output::{Out, flush, put, put_line};
-use console::status::{Status, worse};
+use console::status::Status;
 use ending::{status, stop_line};
-use files::command::Command;
+use files::command::Command as Given;
 use files::message::{fail, say};
 use files::origin::Origin;
 use files::system::{Sink, System};
@@ -151,7 +152,7 @@ fn first_word<R: System>(rt: &R, from: usize) -> u32 {
     rate(text::number::parse_number(&word[..n]))
 }
 
-fn start<R: System>(rt: &R, from: usize, c: Command) -> Status {
+fn start<R: System>(rt: &R, from: usize, c: Given) -> Status {
     if c.option {
         let hz = first_word(rt, from);
         if hz == 0 {
@@ -167,18 +168,21 @@ fn start<R: System>(rt: &R, from: usize, c: Command) -> Status {
     open(rt, from, 16777216, 0)
 }
 
-// The command, whose words begin at an argument.
-pub fn run<R: System>(rt: &R, from: usize) -> Status {
-    let c = files::command::read_from(
-        rt,
-        from,
-        b"wave",
-        b"--clock",
-        b"",
-        0,
-        2,
-        b"usage: wave [TRACE]\n       wave --clock HZ [TRACE]\n",
-        b"\
+// Its name, what may stand on its line, what it says of itself and what it does.
+struct WaveCommand;
+
+impl Command for WaveCommand {
+    const NAME: &'static [u8] = b"wave";
+
+    const FIRST: &'static [u8] = b"--clock";
+
+    const LEAST: usize = 0;
+
+    const MOST: usize = 2;
+
+    const USAGE: &'static [u8] = b"usage: wave [TRACE]\n       wave --clock HZ [TRACE]\n";
+
+    const HELP: &'static [u8] = b"\
 Plays a trace on a module fresh from reset, and writes what its lines do as a VCD file, which GTKWave, PulseView and sigrok read. Without
 TRACE, or with -, it reads standard input.
 
@@ -195,10 +199,18 @@ A stop is said on standard error, with its place in bytes; the file up to there 
   10  the clocks since reset or since the start would pass 2^64 - 1
 
 Exit status: 0 drawn to the end, 1 the trace stopped, 2 could not be done.
-",
-    );
-    if !c.go {
-        return worse(c.wrong, Status::Done);
+";
+
+    ghost LEAST = { 0 };
+
+    ghost MOST = { 2 };
+
+    fn answer<R: System>(rt: &R, from: usize, c: Given) -> Status {
+        start(rt, from, c)
     }
-    start(rt, from, c)
+}
+
+// The command, whose words begin at an argument.
+pub fn run<R: System>(rt: &R, from: usize) -> Status {
+    console::command::run::<WaveCommand, R>(rt, from)
 }

@@ -1,3 +1,4 @@
 pub mod Status
 pub mod Output
 pub mod Input
+pub mod Command
