@@ -88,8 +88,3 @@ module _ (kind first : ℕ) (a b list : List ℕ) where
       → Gives o buf (list_lines kind first a b list (i + 1)) o₂ buf₂
   unfolding list_lines
   goes o buf o₁ buf₁ o₂ buf₂ i g h = rw (add-one i) (both o buf (list_lines kind first a b list i) o₁ buf₁ _ o₂ buf₂ g h)
-
-  pub ends : (o : Out) (buf : List ℕ) (o₁ : Out) (buf₁ : List ℕ) (i n m : ℕ) → i ≤ n → n ≡ m → n ≤ i → Gives o buf (list_lines kind first a b list i) o₁ buf₁
-      → Gives o buf (list_lines kind first a b list m) o₁ buf₁
-  ends o buf o₁ buf₁ i n m le is ge g =
-      let same : i ≡ m = omega arith in subst (λ (k : ℕ). Gives o buf (list_lines kind first a b list k) o₁ buf₁) same g

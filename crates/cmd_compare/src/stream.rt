@@ -99,14 +99,12 @@ pub fn pass<R: System>(
         out,
         end: End::More,
     };
-    let mut turns = u64::MAX;
-    while turns > 0 {
+    for _ in 0..u64::MAX {
         now = turn(rt, shows, to, now, first, second, &mut a, &mut b, lines);
         let end = now.end;
         let End::More = end else {
             return now;
         };
-        turns -= 1;
     }
     now
 }

@@ -43,13 +43,11 @@ fn read_all<R: System>(rt: &R, from: &Origin, buf: &mut [u8]) -> Filled
         ended: false,
         failed: false,
     };
-    let mut turns = u64::MAX;
-    while turns > 0 {
+    for _ in 0..u64::MAX {
         f = fill(rt, from, buf, f.total, false);
         if f.ended | (f.total >= buf.len()) {
             return f;
         }
-        turns -= 1;
     }
     f
 }

@@ -52,8 +52,7 @@ pub fn find<R: System>(rt: &R, from: &Origin, lent: &[u64], count: usize, number
             what: What::More,
         },
     };
-    let mut turns = u64::MAX;
-    while turns > 0 {
+    for _ in 0..u64::MAX {
         now = turn(rt, from, now, number, &mut buf);
         let source = now.source;
         if source.failed {
@@ -64,7 +63,6 @@ pub fn find<R: System>(rt: &R, from: &Origin, lent: &[u64], count: usize, number
         let What::More = what else {
             return now;
         };
-        turns -= 1;
     }
     now
 }

@@ -57,8 +57,7 @@ pub fn index<R: System>(rt: &R, from: &Origin, lent: &mut [u64], count: usize) -
         source: Source::of(from),
         made: begin(rt, from, lent, count),
     };
-    let mut turns = u64::MAX;
-    while turns > 0 {
+    for _ in 0..u64::MAX {
         now = turn(rt, from, now, &mut buf, lent);
         let source = now.source;
         if source.failed {
@@ -69,7 +68,6 @@ pub fn index<R: System>(rt: &R, from: &Origin, lent: &mut [u64], count: usize) -
         let Next::More = next else {
             return now;
         };
-        turns -= 1;
     }
     now
 }

@@ -128,8 +128,7 @@ pub fn play_all<R: System>(
             words: errors(err),
         },
     };
-    let mut turns = u64::MAX;
-    while turns > 0 {
+    for _ in 0..u64::MAX {
         now = turn(rt, wanted, from, to, err, now, &mut buf, lines, words);
         let e = ended(now);
         let out = e.lines;
@@ -138,7 +137,6 @@ pub fn play_all<R: System>(
         if e.unread | (out.failed | said.failed) | !goes_on(told) {
             return e;
         }
-        turns -= 1;
     }
     ended(now)
 }

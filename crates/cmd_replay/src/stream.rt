@@ -156,14 +156,12 @@ pub fn replay<R: System>(rt: &R, from: &Origin, to: &Sink, lines: &mut [u8]) -> 
     let mut buf = io::large_buffer();
     let mut room = answers();
     let mut now = begin(from, to);
-    let mut turns = u64::MAX;
-    while turns > 0 {
+    for _ in 0..u64::MAX {
         now = turn(rt, from, to, now, &mut buf, lines, &mut room);
         let next = now.next;
         if !goes_on(next) {
             return now;
         }
-        turns -= 1;
     }
     now
 }

@@ -130,14 +130,12 @@ pub fn show_all<R: System>(
         out: Out::standard(to),
         next: Next::More,
     };
-    let mut turns = u64::MAX;
-    while turns > 0 {
+    for _ in 0..u64::MAX {
         now = turn(rt, traces, from, to, now, &mut buf, lines);
         let next = now.next;
         let Next::More = next else {
             return now;
         };
-        turns -= 1;
     }
     now
 }

@@ -100,8 +100,7 @@ pub fn draw_all<R: System>(
             out,
         },
     };
-    let mut turns = u64::MAX;
-    while turns > 0 {
+    for _ in 0..u64::MAX {
         now = turn(rt, hz, from, to, now, &mut buf, lines);
         let source = now.source;
         let e = ended(now);
@@ -110,7 +109,6 @@ pub fn draw_all<R: System>(
         if e.unread | given.failed | source.ended | !wants(told) {
             return e;
         }
-        turns -= 1;
     }
     ended(now)
 }
