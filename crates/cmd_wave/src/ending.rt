@@ -1,12 +1,12 @@
 // How a drawing ended: what is said of it, and the status.
 ghost use Rattle.std.specs.Prelude.{◌≡◌};
-ghost use Rattle.text.specs.Line.{puts, Shows};
-ghost use Rattle.cmd_wave.specs.Ending.{wants, stop_words, stop_line, status};
+ghost use Rattle.text.specs.Line.{Shows};
+ghost use Rattle.cmd_wave.specs.Ending.{wants, stop_line, status};
 
 use console::status::Status;
+use console::stop::{at_byte, numbered, stop_words};
 use text::line::Line;
 use tool_wave::Outcome;
-use trace::Stop;
 
 // Whether more bytes could change what was told: at the end of a piece, or before a record that its end cuts.
 // Ruled out: a record taken for cut because a piece ends in it.
@@ -21,30 +21,12 @@ pub fn wants(o: Outcome) -> bool
     }
 }
 
-// Why a trace stopped.
-fn stop_words(line: Line, why: u8) -> Line
-    ensures { result ≡ puts line (stop_words why) }
-{
-    match why {
-        5 => line.stop_words(Stop::UnknownKind),
-        6 => line.stop_words(Stop::CutRecord),
-        _ => line.stop_words(Stop::ClockLimit),
-    }
-}
-
-// The same with its number, and the place in bytes of the record before which it stopped.
+// Why a trace stopped, with the refusal's number, and the place in bytes of the record before which it stopped.
 // Ruled out: the number of another refusal; the words of another.
 pub fn stop_line(why: u8, place: u64) -> Line
     ensures { Shows result (stop_line why place) }
 {
-    let start = Line::empty()
-        .write(b"refusal ")
-        .decimal(3, why as u64)
-        .write(b", ");
-    stop_words(start, why)
-        .write(b": record at byte ")
-        .decimal(20, place)
-        .put(10)
+    at_byte(stop_words(numbered(why), why), place)
 }
 
 // Ruled out: a stop that a script takes for done.

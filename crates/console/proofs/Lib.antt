@@ -1,2 +1,3 @@
 pub mod Giving
 pub mod Reading
+pub mod Stopping

@@ -6,3 +6,4 @@ pub mod input;
 pub mod message;
 pub mod output;
 pub mod status;
+pub mod stop;

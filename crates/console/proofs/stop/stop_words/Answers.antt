@@ -1,5 +1,5 @@
 use borrow.Author.Tests.{ne_eqb}
-use Rattle.cmd_wave.proofs.ending.stop_words.Goals as goal
+use Rattle.console.proofs.stop.stop_words.Goals as goal
 
 pub returns-in-5 : goal.returns-in-5
 returns-in-5 c = rw (c.stop_words.ensures, c.in-5.is)
