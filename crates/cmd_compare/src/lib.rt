@@ -9,7 +9,7 @@ use files::command::Command as Given;
 use files::message::{fail, say};
 use files::origin::Origin;
 use files::system::{Sink, System};
-use piece::End;
+use piece::{End, Log};
 use stream::pass;
 use verdict::{status_of, status_shown, to_show, verdict_line};
 
@@ -24,13 +24,8 @@ mod verdict;
 // What a pass could not do.
 fn say_end(end: End, a: &Origin, b: &Origin) {
     match end {
-        End::NotRead(first) => {
-            if first {
-                fail(b"compare", b"A", a.error());
-            } else {
-                fail(b"compare", b"B", b.error());
-            }
-        }
+        End::NotRead(Log::First) => fail(b"compare", b"A", a.error()),
+        End::NotRead(Log::Second) => fail(b"compare", b"B", b.error()),
         End::More => say(b"compare", b"a log is too long\n"),
         _ => {}
     }

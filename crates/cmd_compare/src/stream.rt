@@ -2,7 +2,7 @@
 ghost use Rattle.std.specs.Prelude.{◌≡◌, length};
 ghost use Rattle.io.specs.Counts.{IsPrefixLen};
 
-use crate::piece::End;
+use crate::piece::{End, Log};
 use crate::step::{Turned, step};
 use crate::tally::nothing;
 use console::output::Out;
@@ -32,13 +32,13 @@ fn fill_up<R: System>(rt: &R, from: &Origin, buf: &mut [u8]) -> Filled
     }
 }
 
-fn not_read(t: Turned, first: bool) -> Turned {
+fn not_read(t: Turned, log: Log) -> Turned {
     let tally = t.tally;
     let out = t.out;
     Turned {
         tally,
         out,
-        end: End::NotRead(first),
+        end: End::NotRead(log),
     }
 }
 
@@ -69,11 +69,11 @@ fn turn<R: System>(
 ) -> Turned {
     let f = fill_up(rt, first, a);
     if f.failed {
-        return not_read(t, true);
+        return not_read(t, Log::First);
     }
     let s = fill_up(rt, second, b);
     if s.failed {
-        return not_read(t, false);
+        return not_read(t, Log::Second);
     }
     let n = f.total;
     let m = s.total;
