@@ -73,19 +73,19 @@ fn print_count<R: System>(rt: &R, records: u64) {
         .put(10);
     let n = line.length;
     let bytes = line.bytes;
-    if !write_first(&output, &bytes, n) {
-        fail(b"assemble", b"standard output", output.error());
+    if let Err(e) = write_first(&output, &bytes, n) {
+        fail(b"assemble", b"standard output", e);
     }
 }
 
 // The text of an input into the trace at a path.
 fn make<R: System>(rt: &R, from: &Origin, name: &[u8], path: &[u8]) {
     let mut beside = io::buffer();
-    let o = files::output::begin(rt, b"assemble", path, &mut beside);
-    let n = o.name;
-    let Some(sink) = o.sink else {
+    let Some(new) = files::output::begin(rt, b"assemble", path, &mut beside) else {
         return;
     };
+    let n = new.name;
+    let sink = new.sink;
     let t = run::assemble(rt, from, &sink);
     let whole = good(t, name, path, from, &sink);
     if files::output::finish(rt, b"assemble", sink, &beside[..n], path, whole) {
@@ -95,7 +95,7 @@ fn make<R: System>(rt: &R, from: &Origin, name: &[u8], path: &[u8]) {
 }
 
 fn main(rt: HostRuntime) {
-    let c = files::command::read(
+    let read = files::command::read(
         &rt,
         b"assemble",
         b"",
@@ -123,16 +123,14 @@ Bit k of a text, from 0, begins k x clock / rate clocks behind the text's beginn
 A line that is not understood is reported with its number and its column, and no trace is made.
 ",
     );
-    if !c.go {
+    if read.is_err() {
         return;
     }
     let mut path = io::buffer();
     let p = files::command::word(&rt, 1, &mut path);
     let mut name = io::buffer();
-    let i = files::input::open(&rt, b"assemble", 0, &mut name);
-    let n = i.name;
-    let Some(text) = i.from else {
+    let Some(text) = files::input::open(&rt, b"assemble", 0, &mut name) else {
         return;
     };
-    make(&rt, &text, &name[..n], &path[..p]);
+    make(&rt, &text.from, &name[..text.name], &path[..p]);
 }

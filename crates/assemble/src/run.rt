@@ -2,8 +2,8 @@
 ghost use Rattle.std.specs.Prelude.{◌≤◌};
 
 use files::origin::Origin;
-use files::output::write_first;
-use files::pieces::{counted, fill, least};
+use files::output::{first, write_first};
+use files::pieces::{counted, fill};
 use files::system::{Sink, System};
 use qsm::event::Event;
 use tool_assemble::encode::encode;
@@ -39,7 +39,7 @@ fn write_record(to: &Sink, kind: u8, e: Event) -> bool {
     let r = encode(kind, e);
     let n = r.length;
     let bytes = r.bytes;
-    write_first(to, &bytes, n)
+    write_first(to, &bytes, n).is_ok()
 }
 
 // The holds of a character, whose first bit is bit k of the text.
@@ -68,11 +68,11 @@ struct Wrote {
 // The holds of a text, from its start in a line on: at most 1,024 characters.
 fn send(to: &Sink, s: Sent, line: &[u8]) -> Wrote {
     let mut k: u32 = 0;
-    let start = least(s.start, line.len());
+    let start = s.start.min(line.len());
     let mut at = line.len() - start;
     while k < 10240 {
         let c = tool_assemble::sent::first(&line[at..]);
-        let n = least(c.length, line.len() - at);
+        let n = c.length.min(line.len() - at);
         if n == 0 {
             return Wrote {
                 ok: true,
@@ -128,13 +128,11 @@ fn column(length: usize, left: usize) -> u64 {
 
 // What the first n bytes of a buffer say.
 fn said(bytes: &[u8], n: usize) -> Item {
-    let some = least(n, bytes.len());
-    tool_assemble::item::parse(&bytes[..some])
+    tool_assemble::item::parse(first(bytes, n))
 }
 
 fn send_first(to: &Sink, s: Sent, bytes: &[u8], n: usize) -> Wrote {
-    let some = least(n, bytes.len());
-    send(to, s, &bytes[..some])
+    send(to, s, first(bytes, n))
 }
 
 // A line has ended.
@@ -235,13 +233,12 @@ fn finish(to: &Sink, run: Run) -> Turned {
 
 // Reads once and takes what is there.
 fn turn<R: System>(rt: &R, from: &Origin, to: &Sink, run: Run, buf: &mut [u8]) -> Turned {
-    let f = fill(rt, from, buf, 0, false);
-    if f.failed {
+    let Ok(f) = fill(rt, from, buf, 0, false) else {
         return Turned {
             run,
             next: Next::NotRead,
         };
-    }
+    };
     if f.ended {
         return finish(to, run);
     }

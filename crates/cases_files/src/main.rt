@@ -22,17 +22,16 @@ fn print_number<R: System>(rt: &R, k: usize) {
 // The file's name, and its first bytes.
 fn print_file<R: System>(rt: &R, k: usize) {
     let mut name = io::buffer();
-    let i = files::input::open(rt, b"files_cases", k, &mut name);
-    let n = i.name;
-    let Some(from) = i.from else {
+    let Some(input) = files::input::open(rt, b"files_cases", k, &mut name) else {
         return;
     };
     let mut buf = io::buffer();
-    let f = files::pieces::fill(rt, &from, &mut buf, 0, false);
-    let total = f.total;
-    io::write_all(1, &name[..n]);
+    let read = files::pieces::fill(rt, &input.from, &mut buf, 0, false);
+    io::write_all(1, &name[..input.name]);
     io::write_all(1, b": ");
-    io::write_all(1, &buf[..total]);
+    if let Ok(f) = read {
+        io::write_all(1, &buf[..f.total]);
+    }
 }
 
 fn replace<R: System>(rt: &R, bytes: &[u8]) {
@@ -44,7 +43,7 @@ fn replace<R: System>(rt: &R, bytes: &[u8]) {
 }
 
 fn main(rt: HostRuntime) {
-    let c = files::command::read_two(
+    let Ok(c) = files::command::read_two(
         &rt,
         b"files_cases",
         b"--all",
@@ -53,10 +52,9 @@ fn main(rt: HostRuntime) {
         8,
         b"usage\n",
         b"help\n",
-    );
-    if !c.go {
+    ) else {
         return;
-    }
+    };
     if c.option {
         io::write_all(1, b"--all\n");
     }

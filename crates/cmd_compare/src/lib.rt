@@ -112,13 +112,13 @@ fn files_of<R: System>(rt: &R, from: usize) -> Status {
     let mut name = io::buffer();
     let a = files::input::open_from(rt, from, b"compare", 0, &mut name);
     let b = files::input::open_from(rt, from, b"compare", 1, &mut name);
-    let Some(first) = a.from else {
+    let Some(first) = a else {
         return Status::Failed;
     };
-    let Some(second) = b.from else {
+    let Some(second) = b else {
         return Status::Failed;
     };
-    opened(rt, &first, &second)
+    opened(rt, &first.from, &second.from)
 }
 
 // Its name, what may stand on its line, what it says of itself and what it does.

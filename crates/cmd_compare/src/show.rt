@@ -8,7 +8,7 @@ ghost use Rattle.cmd_compare.specs.Lines.{differs, field_line, first_half, secon
 
 use answers::Field;
 use console::output::{Out, put_line};
-use files::pieces::{counted, least};
+use files::pieces::counted;
 use files::system::Sink;
 use text::difference::difference_line;
 use text::log::{Logged, logged_at};
@@ -144,7 +144,7 @@ pub fn put_list(
 ) -> Out
     ensures { Gives out buf.old (list_lines kind first a.now b.now list.now (min count (length list.now / 2))) result buf.new }
 {
-    let n = least(count as usize, list.len() / 2);
+    let n = (count as usize).min(list.len() / 2);
     let mut given = out;
     for i in 0..n {
         let at = 2 * i;

@@ -1,5 +1,5 @@
 // Two logs read piece by piece, each piece of whole answers but the last.
-ghost use Rattle.std.specs.Prelude.{◌≡◌, length};
+ghost use Rattle.std.specs.Prelude.{◌≡◌, length, IfOk};
 ghost use Rattle.io.specs.Counts.{IsPrefixLen};
 
 use crate::piece::{End, Log};
@@ -7,29 +7,22 @@ use crate::step::{Turned, step};
 use crate::tally::nothing;
 use console::output::Out;
 use files::origin::Origin;
-use files::pieces::{Filled, fill};
+use files::pieces::fill;
 use files::system::{Sink, System};
 
-// Reads until the buffer is full or the input ends.
-fn fill_up<R: System>(rt: &R, from: &Origin, buf: &mut [u8]) -> Filled
-    ensures { IsPrefixLen result.total buf.new }
+// Reads until the buffer is full or the input ends; how many bytes there are.
+fn fill_up<R: System>(rt: &R, from: &Origin, buf: &mut [u8]) -> std::io::Result<usize>
+    ensures { IfOk result (λ n. IsPrefixLen n buf.new) }
 {
     let mut have: usize = 0;
     while have < buf.len() {
-        let f = fill(rt, from, buf, have, false);
-        if f.ended {
-            return f;
-        }
+        let f = fill(rt, from, buf, have, false)?;
         if f.total <= have {
-            return f;
+            break;
         }
         have = f.total;
     }
-    Filled {
-        total: have,
-        ended: false,
-        failed: false,
-    }
+    Ok(have)
 }
 
 fn not_read(t: Turned, log: Log) -> Turned {
@@ -67,16 +60,12 @@ fn turn<R: System>(
     b: &mut [u8],
     lines: &mut [u8],
 ) -> Turned {
-    let f = fill_up(rt, first, a);
-    if f.failed {
+    let Ok(n) = fill_up(rt, first, a) else {
         return not_read(t, Log::First);
-    }
-    let s = fill_up(rt, second, b);
-    if s.failed {
+    };
+    let Ok(m) = fill_up(rt, second, b) else {
         return not_read(t, Log::Second);
-    }
-    let n = f.total;
-    let m = s.total;
+    };
     let mut list = numbers();
     step(shows, to, t, &a[..n], &b[..m], &mut list, lines)
 }

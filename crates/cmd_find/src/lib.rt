@@ -68,24 +68,22 @@ fn look<R: System>(
     count: usize,
     number: u64,
 ) -> Status {
-    let t = stream::find(rt, from, lent, count, number);
-    let source = t.source;
-    if source.failed {
-        fail(b"find", name, from.error());
-        return Status::Failed;
+    match stream::find(rt, from, lent, count, number) {
+        Ok(looked) => report(rt, number, looked),
+        Err(e) => {
+            fail(b"find", name, e);
+            Status::Failed
+        }
     }
-    report(rt, number, t.looked)
 }
 
 // The trace that the first word of the command names.
 fn open<R: System>(rt: &R, from: usize, lent: &[u64], count: usize, number: u64) -> Status {
     let mut name = io::buffer();
-    let i = files::input::open_from(rt, from, b"find", 0, &mut name);
-    let n = i.name;
-    let Some(input) = i.from else {
+    let Some(input) = files::input::open_from(rt, from, b"find", 0, &mut name) else {
         return Status::Failed;
     };
-    look(rt, &input, &name[..n], lent, count, number)
+    look(rt, &input.from, &name[..input.name], lent, count, number)
 }
 
 // The marks of the file that the second word names.
@@ -93,11 +91,10 @@ fn by_marks<R: System>(rt: &R, from: usize, number: u64) -> Status {
     let mut path = io::buffer();
     let n = named_word(rt, from, 1, &mut path);
     let mut lent = numbers();
-    let m = read_marks(rt, b"find", &path[..n], false, &mut lent);
-    if m.read {
-        return open(rt, from, &lent, m.count, number);
-    }
-    Status::Failed
+    let Some(count) = read_marks(rt, b"find", &path[..n], false, &mut lent) else {
+        return Status::Failed;
+    };
+    open(rt, from, &lent, count, number)
 }
 
 fn wanted<R: System>(rt: &R, from: usize) -> Number {

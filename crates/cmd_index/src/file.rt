@@ -4,7 +4,6 @@ ghost use Rattle.console.specs.Output.{Gives};
 ghost use Rattle.cmd_index.specs.File.{file_of};
 
 use console::output::{Out, put};
-use files::pieces::least;
 use files::system::Sink;
 use tool_index::stored::mark_bytes;
 
@@ -13,7 +12,7 @@ use tool_index::stored::mark_bytes;
 pub fn put_marks(to: &Sink, out: Out, buf: &mut [u8], lent: &[u64], count: usize) -> Out
     ensures { Gives out buf.old (file_of lent.now (min count (length lent.now / 2))) result buf.new }
 {
-    let n = least(count, lent.len() / 2);
+    let n = count.min(lent.len() / 2);
     let mut given = out;
     for i in 0..n {
         let mark = mark_bytes(lent[2 * i], lent[2 * i + 1]);

@@ -82,24 +82,22 @@ fn extend<R: System>(
     lent: &mut [u64],
     count: usize,
 ) -> Status {
-    let t = stream::index(rt, from, lent, count);
-    let source = t.source;
-    if source.failed {
-        fail(b"index", name, from.error());
-        return Status::Failed;
+    match stream::index(rt, from, lent, count) {
+        Ok(made) => report(rt, path, lent, made),
+        Err(e) => {
+            fail(b"index", name, e);
+            Status::Failed
+        }
     }
-    report(rt, path, lent, t.made)
 }
 
 // The trace that the first word of the command names.
 fn open<R: System>(rt: &R, from: usize, path: &[u8], lent: &mut [u64], count: usize) -> Status {
     let mut name = io::buffer();
-    let i = files::input::open_from(rt, from, b"index", 0, &mut name);
-    let n = i.name;
-    let Some(input) = i.from else {
+    let Some(input) = files::input::open_from(rt, from, b"index", 0, &mut name) else {
         return Status::Failed;
     };
-    extend(rt, &input, &name[..n], path, lent, count)
+    extend(rt, &input.from, &name[..input.name], path, lent, count)
 }
 
 // The marks of the file that the second word names, if there is one, and then those of the trace.
@@ -107,11 +105,10 @@ fn by_marks<R: System>(rt: &R, from: usize) -> Status {
     let mut path = io::buffer();
     let n = named_word(rt, from, 1, &mut path);
     let mut lent = numbers();
-    let m = read_marks(rt, b"index", &path[..n], true, &mut lent);
-    if m.read {
-        return open(rt, from, &path[..n], &mut lent, m.count);
-    }
-    Status::Failed
+    let Some(count) = read_marks(rt, b"index", &path[..n], true, &mut lent) else {
+        return Status::Failed;
+    };
+    open(rt, from, &path[..n], &mut lent, count)
 }
 
 // Its name, what may stand on its line, what it says of itself and what it does.

@@ -4,7 +4,6 @@ ghost use Rattle.tool_index.specs.Marks.{gone_on};
 ghost use Rattle.tool_index.specs.Laws.{left};
 ghost use Rattle.cmd_index.specs.Piece.{at_end, going_on, decided, made};
 
-use files::pieces::least;
 use tool_index::index::Indexed;
 use tool_index::walk::Position;
 
@@ -75,7 +74,7 @@ fn between(from: u64, to: u64, total: usize) -> usize
     if to < from {
         return 0;
     }
-    least((to - from) as usize, total)
+    ((to - from) as usize).min(total)
 }
 
 // Indexes a piece from the position that the piece before it left, with so many marks there.

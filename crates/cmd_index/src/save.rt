@@ -8,11 +8,11 @@ use files::system::System;
 // Replaces a file of marks. Where it can't, that is said.
 pub fn save<R: System>(rt: &R, path: &[u8], lent: &[u64], count: usize) -> bool {
     let mut name = io::buffer();
-    let o = begin(rt, b"index", path, &mut name);
-    let n = o.name;
-    let Some(sink) = o.sink else {
+    let Some(new) = begin(rt, b"index", path, &mut name) else {
         return false;
     };
+    let n = new.name;
+    let sink = new.sink;
     let mut buf = io::large_buffer();
     let out = put_marks(&sink, Out::to(false), &mut buf, lent, count);
     let end = flush(&sink, out, &buf);

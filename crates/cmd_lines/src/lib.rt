@@ -13,7 +13,6 @@ use files::message::{fail, say, say_of};
 use files::origin::Origin;
 use files::system::{Sink, System};
 use piece::Wanted;
-use std::io::Error;
 use text::number::Number;
 use tool_lines::line::Outcome;
 
@@ -45,22 +44,17 @@ fn write_rest(to: &Sink, out: Out, err: &Sink, notes: Out, lines: &[u8], words: 
     written.failed | said.failed
 }
 
-// What could not be read is said before another call can fail.
-fn say_unread(failed: bool, name: &[u8], error: Error) {
-    if failed {
-        fail(b"lines", name, error);
-    }
-}
-
 fn play<R: System>(rt: &R, wanted: Wanted, from: &Origin, name: &[u8]) -> Status {
     let output = Sink::output(rt);
     let errors = Sink::error_output(rt);
     let mut lines = io::large_buffer();
     let mut words = io::buffer();
     let e = stream::play_all(rt, wanted, from, &output, &errors, &mut lines, &mut words);
-    say_unread(e.unread, name, from.error());
+    if let Some(why) = e.unread {
+        fail(b"lines", name, why);
+    }
     let unwritten = write_rest(&output, e.lines, &errors, e.words, &lines, &words);
-    if e.unread | unwritten {
+    if e.unread.is_some() | unwritten {
         return Status::Failed;
     }
     let told = e.told;
@@ -78,12 +72,10 @@ fn at_most(k: u64) -> u32
 // The trace that the second word of the command names.
 fn open<R: System>(rt: &R, from: usize, wanted: Wanted) -> Status {
     let mut name = io::buffer();
-    let i = files::input::open_from(rt, from, b"lines", 1, &mut name);
-    let n = i.name;
-    let Some(input) = i.from else {
+    let Some(input) = files::input::open_from(rt, from, b"lines", 1, &mut name) else {
         return Status::Failed;
     };
-    play(rt, wanted, &input, &name[..n])
+    play(rt, wanted, &input.from, &name[..input.name])
 }
 
 // The period that the first word names.

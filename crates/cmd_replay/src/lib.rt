@@ -13,21 +13,12 @@ use files::system::{Sink, System};
 use noise::Noted;
 use piece::Next;
 use reception::tally::Tally;
-use std::io::Error;
 use stream::Turned;
 
 mod end;
 mod noise;
 mod piece;
 mod stream;
-
-// What could not be read, said before another call can fail.
-fn say_unread(next: Next, name: &[u8], error: Error) {
-    let Next::NotRead = next else {
-        return;
-    };
-    fail(b"replay", name, error);
-}
 
 // A refusal is said with its record's number, from 0, and its place in bytes.
 fn say_stop(t: Turned) {
@@ -73,7 +64,9 @@ fn replay<R: System>(rt: &R, noise: bool, account: bool, from: &Origin, name: &[
     let t = n.turned;
     let tally = n.tally;
     let next = t.next;
-    say_unread(next, name, from.error());
+    if let Next::NotRead(e) = next {
+        fail(b"replay", name, e);
+    }
     let out = flush(&output, t.out, &lines);
     if out.failed {
         fail(b"replay", b"standard output", output.error());
@@ -137,12 +130,10 @@ Exit status: 0 all answered, 1 the trace stopped, 2 could not be done.
 
     fn answer<R: System>(rt: &R, from: usize, c: Given) -> Status {
         let mut name = io::buffer();
-        let i = files::input::open_from(rt, from, b"replay", 0, &mut name);
-        let n = i.name;
-        let Some(input) = i.from else {
+        let Some(input) = files::input::open_from(rt, from, b"replay", 0, &mut name) else {
             return Status::Failed;
         };
-        replay(rt, c.option, c.second, &input, &name[..n])
+        replay(rt, c.option, c.second, &input.from, &name[..input.name])
     }
 }
 

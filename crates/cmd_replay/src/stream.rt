@@ -7,7 +7,7 @@ use crate::piece::{Next, Run, step};
 use console::input::{Source, more};
 use console::output::{Out, flush};
 use files::origin::Origin;
-use files::pieces::{counted, least};
+use files::pieces::counted;
 use files::system::{Sink, System};
 
 // The run, the output, the input with how many bytes of its buffer were played, and what follows.
@@ -48,10 +48,6 @@ fn before_read(source: Source, to: &Sink, out: Out, lines: &[u8]) -> Out {
     flush(to, out, lines)
 }
 
-fn after_read(failed: bool) -> Next {
-    if failed { Next::NotRead } else { Next::Play }
-}
-
 // Reads once, behind what is left.
 fn read_on<R: System>(
     rt: &R,
@@ -75,13 +71,21 @@ fn read_on<R: System>(
             next: Next::NotWritten,
         };
     }
-    let now = more(rt, from, source, buf, t.at);
-    Turned {
-        run,
-        out,
-        source: now,
-        at: 0,
-        next: after_read(now.failed),
+    match more(rt, from, source, buf, t.at) {
+        Ok(now) => Turned {
+            run,
+            out,
+            source: now,
+            at: 0,
+            next: Next::Play,
+        },
+        Err(e) => Turned {
+            run,
+            out,
+            source,
+            at: 0,
+            next: Next::NotRead(e),
+        },
     }
 }
 
@@ -90,8 +94,8 @@ fn play_on(to: &Sink, t: Turned, buf: &[u8], lines: &mut [u8], room: &mut [u8]) 
     ensures { Turns t.run (length room.old) result }
 {
     let source = t.source;
-    let end = least(source.total, buf.len());
-    let from = least(t.at, end);
+    let end = source.total.min(buf.len());
+    let from = t.at.min(end);
     let run = t.run;
     let s = step(run, to, t.out, lines, &buf[from..end], source.ended, room);
     let past = s.run;
@@ -136,7 +140,7 @@ pub fn goes_on(next: Next) -> bool
         Next::Read => true,
         Next::Done => false,
         Next::Refused(_) => false,
-        Next::NotRead => false,
+        Next::NotRead(_) => false,
         Next::NotWritten => false,
     }
 }

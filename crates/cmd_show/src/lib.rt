@@ -9,7 +9,6 @@ use files::command::Command as Given;
 use files::message::{fail, say};
 use files::origin::Origin;
 use files::system::{Sink, System};
-use std::io::Error;
 use stream::{Next, Turned};
 
 mod item;
@@ -29,7 +28,7 @@ fn report(traces: bool, t: Turned) -> Status {
             );
             Status::Failed
         }
-        Next::NotRead => Status::Failed,
+        Next::NotRead(_) => Status::Failed,
         Next::NotWritten => Status::Failed,
         Next::More => {
             say(b"show", b"input too long\n");
@@ -38,20 +37,13 @@ fn report(traces: bool, t: Turned) -> Status {
     }
 }
 
-// Whether it could not be read, which is said before another call can fail.
-fn say_unread(next: Next, name: &[u8], error: Error) {
-    let Next::NotRead = next else {
-        return;
-    };
-    fail(b"show", name, error);
-}
-
 fn show<R: System>(rt: &R, traces: bool, from: &Origin, name: &[u8]) -> Status {
     let output = Sink::output(rt);
     let mut lines = io::large_buffer();
     let t = stream::show_all(rt, traces, from, &output, &mut lines);
-    let next = t.next;
-    say_unread(next, name, from.error());
+    if let Next::NotRead(e) = t.next {
+        fail(b"show", name, e);
+    }
     let out = flush(&output, t.out, &lines);
     if out.failed {
         fail(b"show", b"standard output", output.error());
@@ -99,14 +91,11 @@ place in bytes; what came before it is printed.
     ghost MOST = { 1 };
 
     fn answer<R: System>(rt: &R, from: usize, c: Given) -> Status {
-        let traces = c.option;
         let mut name = io::buffer();
-        let i = files::input::open_from(rt, from, b"show", 0, &mut name);
-        let n = i.name;
-        let Some(input) = i.from else {
+        let Some(input) = files::input::open_from(rt, from, b"show", 0, &mut name) else {
             return Status::Failed;
         };
-        show(rt, traces, &input, &name[..n])
+        show(rt, c.option, &input.from, &name[..input.name])
     }
 }
 

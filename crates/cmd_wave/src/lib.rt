@@ -13,7 +13,6 @@ use files::command::Command as Given;
 use files::message::{fail, say};
 use files::origin::Origin;
 use files::system::{Sink, System};
-use std::io::Error;
 use text::number::Number;
 use tool_wave::Outcome;
 
@@ -96,22 +95,17 @@ fn write_rest(to: &Sink, out: Out, lines: &[u8]) -> bool {
     end.failed
 }
 
-// What could not be read is said before another call can fail.
-fn say_unread(failed: bool, name: &[u8], error: Error) {
-    if failed {
-        fail(b"wave", name, error);
-    }
-}
-
 fn draw<R: System>(rt: &R, hz: u32, from: &Origin, name: &[u8]) -> Status {
     let output = Sink::output(rt);
     let mut lines = io::large_buffer();
     let out = put_header(&output, Out::standard(&output), &mut lines);
     let e = stream::draw_all(rt, hz, from, &output, out, &mut lines);
-    say_unread(e.unread, name, from.error());
-    let timed = put_end(e.unread, hz, e.clock, &output, e.out, &mut lines);
+    if let Some(why) = e.unread {
+        fail(b"wave", name, why);
+    }
+    let timed = put_end(e.unread.is_some(), hz, e.clock, &output, e.out, &mut lines);
     let unwritten = write_rest(&output, timed, &lines);
-    if e.unread | unwritten {
+    if e.unread.is_some() | unwritten {
         return Status::Failed;
     }
     let told = e.told;
@@ -122,12 +116,10 @@ fn draw<R: System>(rt: &R, hz: u32, from: &Origin, name: &[u8]) -> Status {
 // The trace that a word of the command names.
 fn open<R: System>(rt: &R, from: usize, hz: u32, word: usize) -> Status {
     let mut name = io::buffer();
-    let i = files::input::open_from(rt, from, b"wave", word, &mut name);
-    let n = i.name;
-    let Some(input) = i.from else {
+    let Some(input) = files::input::open_from(rt, from, b"wave", word, &mut name) else {
         return Status::Failed;
     };
-    draw(rt, hz, &input, &name[..n])
+    draw(rt, hz, &input.from, &name[..input.name])
 }
 
 // A clock in Hz, or 0 where a number is none.

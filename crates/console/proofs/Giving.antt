@@ -2,16 +2,14 @@
 use mathlib.Core.Path.{◌≡◌, refl, sym, ap, ◌∙◌}
 use mathlib.Core.Bool.{Bool, true, false}
 use mathlib.Core.List.{List, [], ◌++◌, append-nil, append_assoc}
-use Prim.Native.Nat.{ℕ, ◌+◌, ◌-◌, ◌≤◌, min}
+use Prim.Native.Nat.{ℕ, ◌+◌, ◌-◌}
 use native.Mathlib.Omega.{arith}
-use lib.ListN.{length, take, drop, length-append, drop_of_length-le, take-append-drop}
-use lib.Dec.{ltb}
-use lib.Seq.{take-length, take_all, take_at, length-take-le}
-use borrow.Author.Tests.{ltb-true, ltb-false}
+use lib.ListN.{length, take, drop, length-append, take-append-drop}
+use lib.Seq.{take_at, length-take-le}
 use borrow.Rule.Slice.PartMut.{mid_of, post_of, put_mid, same_len_mid, mid_len}
 use Rattle.console.specs.Output.{Hands, Gives, Fits, put_behind, after, waiting}
 use Rattle.console.specs.declared.output.Out.{Out}
-use Rattle.console.specs.declared.output.Handed.{Handed}
+use Rattle.std.specs.Prelude.{Result, Ok, Err, ⊤}
 
 never : {A : Type 0} (b : Bool) → b ≡ true → b ≡ false → A
 never b bad good = let z : ◌≡◌ {A = ℕ} 0 1 = cc in absurd (omega arith)
@@ -30,14 +28,24 @@ refused o buf text bad =
     }
 
 -- All that waits, and a text behind it, handed to the system.
-pub went : (o : Out) (buf text bytes : List ℕ) (h : Handed) → o.failed ≡ false → waiting o buf ++ text ≡ bytes → Hands bytes h
+pub went : (o : Out) (buf text bytes : List ℕ) (h : Result ⊤ ℕ) → o.failed ≡ false → waiting o buf ++ text ≡ bytes → Hands bytes h
     → Gives o buf text (after o h) buf
-went o buf text bytes h good is hands =
+went o buf text bytes (Ok all) good is hands =
     record {
-      handed = take h.taken bytes;
-      lost = drop h.taken bytes;
-      order = is ∙ rw append-nil (sym (take-append-drop h.taken bytes));
-      kept = λ ok. drop_of_length-le bytes {i = h.taken} (omega (arith, hands.all ok));
+      handed = bytes;
+      lost = [];
+      order = is ∙ sym (append-nil (bytes ++ []) ∙ append-nil bytes);
+      kept = λ _. refl;
+      stopped = λ bad. never o.failed bad good;
+      same = refl;
+      room = refl;
+    }
+went o buf text bytes (Err taken) good is hands =
+    record {
+      handed = take taken bytes;
+      lost = drop taken bytes;
+      order = is ∙ rw append-nil (sym (take-append-drop taken bytes));
+      kept = λ ok. never true refl ok;
       stopped = λ bad. never o.failed bad good;
       same = refl;
       room = refl;
@@ -109,15 +117,3 @@ module _ (o : Out) (buf text : List ℕ) (o₁ : Out) (buf₁ rest : List ℕ) (
 
   pub both : Gives o buf (text ++ rest) o₂ buf₂
   both = by o₁.failed refl
-
--- The first bytes of a buffer, and no more than it has.
-module _ (n : ℕ) (buf : List ℕ) where
-  as_tested : (b : Bool) → ltb n (length buf) ≡ b → take (min n (length buf)) buf ≡ take n buf
-  as_tested true is = let short = ltb-true n (length buf) is in let is-min : min n (length buf) ≡ n = omega (arith, short) in rw is-min
-  as_tested false is =
-      let long : length buf ≤ n = ltb-false n (length buf) is in
-      let is-min : min n (length buf) ≡ length buf = omega (arith, long) in
-      rw is-min (take-length buf) ∙ sym (take_all n buf long)
-
-  pub within : take (min n (length buf)) buf ≡ take n buf
-  within = as_tested (ltb n (length buf)) refl

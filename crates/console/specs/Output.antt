@@ -1,22 +1,16 @@
 -- An output: what was given to it is what the system took of it, then what waits, then, once a write has failed, what is lost.
-use Rattle.std.specs.Prelude.{◌≡◌, Bool, true, false, List, [], ◌++◌, ℕ, ◌+◌, ◌≤◌, length, take}
+use Rattle.std.specs.Prelude.{◌≡◌, Bool, true, false, List, [], ◌++◌, ℕ, ◌+◌, ◌≤◌, length, take, Result, ⊤, IfErr, is_err}
 use Rattle.console.specs.declared.output.Out.{Out}
-use Rattle.console.specs.declared.output.Handed.{Handed}
-
--- One write takes some of the bytes handed to it.
-abbrev pub Takes : List ℕ → Handed → Type 0
-Takes bytes h = h.taken ≤ length bytes
 
 -- The system took the first of the bytes handed to it, and all of them unless a write failed.
-pub record Hands (bytes : List ℕ) (h : Handed) : Type 0 where
-  pub most : h.taken ≤ length bytes
-  pub all : h.failed ≡ false → h.taken ≡ length bytes
+abbrev pub Hands : List ℕ → Result ⊤ ℕ → Type 0
+Hands bytes h = IfErr h (λ taken. taken ≤ length bytes)
 
 abbrev pub fresh : Bool → Out
 fresh eager = record { eager = eager; waits = 0; failed = false }
 
-abbrev pub after : Out → Handed → Out
-after o h = record { eager = o.eager; waits = 0; failed = h.failed }
+abbrev pub after : Out → Result ⊤ ℕ → Out
+after o h = record { eager = o.eager; waits = 0; failed = is_err h }
 
 -- The bytes of the buffer that wait to be handed on.
 abbrev pub waiting : Out → List ℕ → List ℕ

@@ -4,7 +4,7 @@ ghost use Rattle.files.specs.declared.command.Command.{Command as Given};
 ghost use Rattle.console.specs.Command.{Ends};
 ghost use Rattle.console.specs.declared.status.Status.{Status as Ended};
 
-use crate::status::{Status, worse};
+use crate::status::Status;
 use files::command::{Command as Given, read_from};
 use files::system::System;
 
@@ -42,7 +42,7 @@ pub trait Command {
 pub fn run<C: Command, R: System>(rt: &R, from: usize) -> Status
     ensures { Ends C.LEAST C.MOST C.ends result }
 {
-    let given = read_from(
+    let read = read_from(
         rt,
         from,
         C::NAME,
@@ -53,9 +53,8 @@ pub fn run<C: Command, R: System>(rt: &R, from: usize) -> Status
         C::USAGE,
         C::HELP,
     );
-    if given.go {
-        C::answer(rt, from, given)
-    } else {
-        worse(given.wrong, Status::Done)
+    match read {
+        Ok(given) => C::answer(rt, from, given),
+        Err(why) => Status::from(why),
     }
 }

@@ -1,9 +1,9 @@
 // What a command writes: bytes are collected in a buffer that it lends, and handed to a sink, which is lent too, when the buffer is full. The first error ends it:
 // nothing is written after it.
 ghost use Rattle.std.specs.Prelude.{◌≡◌, false, [], take};
-ghost use Rattle.console.specs.Output.{Takes, Hands, Gives, Cleared, Fits, fresh, after};
+ghost use Rattle.console.specs.Output.{Hands, Gives, Cleared, Fits, fresh, after};
 
-use files::pieces::least;
+use files::output::first;
 use files::system::Sink;
 use std::io::ErrorKind;
 use text::line::Line;
@@ -19,64 +19,34 @@ pub struct Out {
     pub failed: bool,
 }
 
-// How many bytes the system took of those handed to it, and whether it then refused more.
-#[derive(Clone, Copy)]
-struct Handed {
-    taken: usize,
-    failed: bool,
-}
-
-// One write. A call that a signal interrupts has taken nothing and failed in nothing.
-fn once(to: &Sink, bytes: &[u8]) -> Handed
-    ensures { Takes bytes.now result }
-{
-    match to.write_some(bytes) {
-        Ok(n) => Handed {
-            taken: n,
-            failed: n == 0,
-        },
-        Err(e) => Handed {
-            taken: 0,
-            failed: e.kind() != ErrorKind::Interrupted,
-        },
-    }
-}
-
-// Writes until all is taken or a write fails.
-fn hand(to: &Sink, bytes: &[u8]) -> Handed
+// Writes until all is taken or a write fails; else how many bytes were taken. A call that a signal interrupts has taken nothing and failed in nothing.
+fn hand(to: &Sink, bytes: &[u8]) -> Result<(), usize>
     ensures { Hands bytes.now result }
 {
     let mut at = 0;
-    let mut turns = u64::MAX;
-    while at < bytes.len() {
-        let h = once(to, &bytes[at..]);
-        at += h.taken;
-        if h.failed {
-            return Handed {
-                taken: at,
-                failed: true,
-            };
+    for _ in 0..u64::MAX {
+        if at == bytes.len() {
+            return Ok(());
         }
-        if turns == 0 {
-            return Handed {
-                taken: at,
-                failed: true,
-            };
+        match to.write_some(&bytes[at..]) {
+            Ok(0) => return Err(at),
+            Ok(n) => at += n,
+            Err(e) => {
+                if e.kind() != ErrorKind::Interrupted {
+                    return Err(at);
+                }
+            }
         }
-        turns -= 1;
     }
-    Handed {
-        taken: at,
-        failed: false,
-    }
+    Err(at)
 }
 
 impl Out {
-    fn after(mut self, h: Handed) -> Out
-        ensures { result ≡ after self h }
+    fn after(mut self, handed: Result<(), usize>) -> Out
+        ensures { result ≡ after self handed }
     {
         self.waits = 0;
-        self.failed = h.failed;
+        self.failed = handed.is_err();
         self
     }
 
@@ -110,8 +80,7 @@ pub fn flush(to: &Sink, out: Out, buf: &[u8]) -> Out
     if out.failed {
         return out;
     }
-    let n = least(out.waits, buf.len());
-    out.after(hand(to, &buf[..n]))
+    out.after(hand(to, first(buf, out.waits)))
 }
 
 // A text behind what waits, where there is room for it.
@@ -170,8 +139,7 @@ pub fn put(to: &Sink, out: Out, buf: &mut [u8], text: &[u8]) -> Out
 pub fn put_first(to: &Sink, out: Out, buf: &mut [u8], text: &[u8], n: usize) -> Out
     ensures { Gives out buf.old (take n text.now) result buf.new }
 {
-    let some = least(n, text.len());
-    put(to, out, buf, &text[..some])
+    put(to, out, buf, first(text, n))
 }
 
 // Ruled out: a line cut short; the zeros behind it.

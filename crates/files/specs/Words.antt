@@ -1,5 +1,5 @@
 -- The words of a command, and a name made of two texts.
-use Rattle.std.specs.Prelude.{◌≡◌, Bool, true, false, cond, ◌&&◌, List, [], ◌∷◌, ◌++◌, ℕ, ◌+◌, ◌≤◌, eqb, ltb, length, get_or, drop}
+use Rattle.std.specs.Prelude.{Bool, true, false, cond, ◌&&◌, List, [], ◌∷◌, ◌++◌, ℕ, ◌+◌, ◌≤◌, eqb, ltb, length, get_or, drop}
 use Rattle.files.specs.declared.words.Word.{Word}
 use Rattle.files.specs.declared.words.Word.TheVariants.{Help, Version, First, Second, Unknown, Plain}
 
@@ -26,9 +26,8 @@ kind word help version first second =
     Plain
 
 -- A program goes on only with as many words as it expects.
-abbrev pub Expected : ℕ → ℕ → Bool → ℕ → Type 0
-Expected least most true words = (least ≤ words) × (words ≤ most)
-Expected least most false words = words ≡ 0
+abbrev pub Expected : ℕ → ℕ → ℕ → Type 0
+Expected least most words = (least ≤ words) × (words ≤ most)
 
 -- Two texts, one behind the other, at the start of a buffer, and their length; nothing where they don't fit.
 abbrev pub joined_length : List ℕ → List ℕ → List ℕ → ℕ

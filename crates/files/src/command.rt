@@ -1,33 +1,38 @@
 // A program's command: options, in any place, and words. --help and --version are answered, and what is not expected is said.
-ghost use Rattle.std.specs.Prelude.{◌≡◌, false};
+ghost use Rattle.std.specs.Prelude.{IfOk};
 ghost use Rattle.io.specs.Counts.{IsPrefixLen};
 ghost use Rattle.files.specs.Words.{Expected};
 
 use crate::message::{ERROR, fail, say, say_of};
 use crate::system::{Sink, System};
-use crate::version::print_version;
+use crate::version::write_version;
 use crate::words::{Word, is_option, kind};
 use std::env::FillError;
 
-// Whether the program goes on, or something was wrong; whether its option is given and the second one, and how many words there are beside options.
+// What a command gives: whether its option is given and the second one, and how many words there are beside options.
 #[derive(Clone, Copy)]
 pub struct Command {
-    pub go: bool,
-    pub wrong: bool,
     pub option: bool,
     pub second: bool,
     pub words: usize,
 }
 
-// The words of a command: whether --help, --version and the program's options stand among them, the place of an option that is not known, or 0,
-// and how many are no options.
+// Why a command does not go on: what it asked for, as its help, was answered; or something was wrong, which is said.
+#[derive(Clone, Copy, PartialEq, Eq)]
+pub enum Stopped {
+    Answered,
+    Wrong,
+}
+
+// The words of a command: whether --help, --version and the program's options stand among them, the place of an option that is not known, and how many
+// are no options.
 #[derive(Clone, Copy)]
 struct Seen {
     help: bool,
     version: bool,
     option: bool,
     second: bool,
-    unknown: usize,
+    unknown: Option<usize>,
     words: usize,
 }
 
@@ -58,34 +63,25 @@ fn kind_at<R: System>(rt: &R, i: usize, option: &[u8], second: &[u8]) -> Word {
 }
 
 fn see<R: System>(rt: &R, from: usize, option: &[u8], second: &[u8]) -> Seen {
-    let count = count(rt);
-    let mut help = false;
-    let mut version = false;
-    let mut one = false;
-    let mut two = false;
-    let mut unknown = 0;
-    let mut words = 0;
-    let mut i = from;
-    while i < count {
-        let w = kind_at(rt, i, option, second);
-        match w {
-            Word::Help => help = true,
-            Word::Version => version = true,
-            Word::First => one = true,
-            Word::Second => two = true,
-            Word::Unknown => unknown = i,
-            Word::Plain => words += 1,
+    let mut seen = Seen {
+        help: false,
+        version: false,
+        option: false,
+        second: false,
+        unknown: None,
+        words: 0,
+    };
+    for i in from..count(rt) {
+        match kind_at(rt, i, option, second) {
+            Word::Help => seen.help = true,
+            Word::Version => seen.version = true,
+            Word::First => seen.option = true,
+            Word::Second => seen.second = true,
+            Word::Unknown => seen.unknown = Some(i),
+            Word::Plain => seen.words += 1,
         }
-        i += 1;
     }
-    Seen {
-        help,
-        version,
-        option: one,
-        second: two,
-        unknown,
-        words,
-    }
+    seen
 }
 
 fn is_plain<R: System>(rt: &R, i: usize) -> bool {
@@ -98,15 +94,13 @@ fn is_plain<R: System>(rt: &R, i: usize) -> bool {
 pub fn word_from<R: System>(rt: &R, from: usize, k: usize) -> usize {
     let count = count(rt);
     let mut left = k;
-    let mut i = from;
-    while i < count {
+    for i in from..count {
         if is_plain(rt, i) {
             if left == 0 {
                 return i;
             }
             left -= 1;
         }
-        i += 1;
     }
     count
 }
@@ -138,39 +132,31 @@ fn say_unknown<R: System>(rt: &R, program: &[u8], i: usize) {
     say_of(program, b"unknown option ", &word[..n]);
 }
 
-fn refuse<R: System>(rt: &R, program: &[u8], seen: Seen, least: usize, usage: &[u8]) {
-    if seen.unknown > 0 {
-        say_unknown(rt, program, seen.unknown);
-    } else if seen.words < least {
-        say(program, b"too few arguments\n");
-    } else {
-        say(program, b"too many arguments\n");
-    }
-    io::write_all(ERROR, usage);
-}
-
-fn stop(wrong: bool) -> Command
-    ensures { result ≡ record { go = false; wrong = wrong; option = false; second = false; words = 0 } }
-{
-    Command {
-        go: false,
-        wrong,
-        option: false,
-        second: false,
-        words: 0,
-    }
-}
-
-// The usage and the help on standard output; whether they could not be written, which is said.
-fn print_help<R: System>(rt: &R, program: &[u8], usage: &[u8], help: &[u8]) -> bool {
-    let output = Sink::output(rt);
-    if output.write_all(usage) {
-        if output.write_all(help) {
-            return false;
+// What was asked for is on standard output; where it could not be written, that is said.
+fn answered(program: &[u8], written: std::io::Result<()>) -> Stopped {
+    match written {
+        Ok(()) => Stopped::Answered,
+        Err(e) => {
+            fail(program, b"standard output", e);
+            Stopped::Wrong
         }
     }
-    fail(program, b"standard output", output.error());
-    true
+}
+
+fn write_help<R: System>(rt: &R, usage: &[u8], help: &[u8]) -> std::io::Result<()> {
+    let output = Sink::output(rt);
+    output.write_all(usage)?;
+    output.write_all(help)
+}
+
+// The usage and the help on standard output.
+pub fn print_help<R: System>(rt: &R, program: &[u8], usage: &[u8], help: &[u8]) -> Stopped {
+    answered(program, write_help(rt, usage, help))
+}
+
+// The program's name and its version on standard output.
+pub fn print_version<R: System>(rt: &R, program: &[u8]) -> Stopped {
+    answered(program, write_version(rt, program))
 }
 
 // The command from an argument on, where it has from `least` to `most` words beside options, and no option that the program doesn't know. Otherwise
@@ -187,36 +173,31 @@ pub fn read_from<R: System>(
     most: usize,
     usage: &[u8],
     help: &[u8],
-) -> Command
-    ensures { Expected least most result.go result.words }
+) -> Result<Command, Stopped>
+    ensures { IfOk result (λ c. Expected least most c.words) }
 {
     let seen = see(rt, from, option, second);
-    let words = seen.words;
     if seen.help {
-        return stop(print_help(rt, program, usage, help));
+        return Err(print_help(rt, program, usage, help));
     }
     if seen.version {
-        return stop(print_version(rt, program));
+        return Err(print_version(rt, program));
     }
-    if seen.unknown > 0 {
-        refuse(rt, program, seen, least, usage);
-        return stop(true);
+    if let Some(i) = seen.unknown {
+        say_unknown(rt, program, i);
+    } else if seen.words < least {
+        say(program, b"too few arguments\n");
+    } else if seen.words > most {
+        say(program, b"too many arguments\n");
+    } else {
+        return Ok(Command {
+            option: seen.option,
+            second: seen.second,
+            words: seen.words,
+        });
     }
-    if words < least {
-        refuse(rt, program, seen, least, usage);
-        return stop(true);
-    }
-    if words > most {
-        refuse(rt, program, seen, least, usage);
-        return stop(true);
-    }
-    Command {
-        go: true,
-        wrong: false,
-        option: seen.option,
-        second: seen.second,
-        words,
-    }
+    io::write_all(ERROR, usage);
+    Err(Stopped::Wrong)
 }
 
 // The same from argument 1 on: a program's command.
@@ -230,8 +211,8 @@ pub fn read_two<R: System>(
     most: usize,
     usage: &[u8],
     help: &[u8],
-) -> Command
-    ensures { Expected least most result.go result.words }
+) -> Result<Command, Stopped>
+    ensures { IfOk result (λ c. Expected least most c.words) }
 {
     read_from(rt, 1, program, option, second, least, most, usage, help)
 }
@@ -246,8 +227,8 @@ pub fn read<R: System>(
     most: usize,
     usage: &[u8],
     help: &[u8],
-) -> Command
-    ensures { Expected least most result.go result.words }
+) -> Result<Command, Stopped>
+    ensures { IfOk result (λ c. Expected least most c.words) }
 {
     read_two(rt, program, option, b"", least, most, usage, help)
 }

@@ -26,11 +26,30 @@ pub fn say_first(program: &[u8], bytes: &[u8], n: usize) {
     io::write_all(ERROR, first(bytes, n));
 }
 
+// How a message says the bytes of a name.
+pub trait Says: Copy {
+    fn say(self, bytes: &[u8]);
+}
+
+// As they are.
+#[derive(Clone, Copy)]
+pub struct Plain;
+
+impl Says for Plain {
+    fn say(self, bytes: &[u8]) {
+        io::write_all(ERROR, bytes);
+    }
+}
+
 // A message on a word, as a name that is not known.
 pub fn say_of(program: &[u8], text: &[u8], word: &[u8]) {
-    begin(program);
-    io::write_all(ERROR, text);
-    io::write_all(ERROR, word);
+    say_of_by(Plain, program, text, word);
+}
+
+// The same by a way to say the word.
+pub fn say_of_by<S: Says>(how: S, program: &[u8], text: &[u8], word: &[u8]) {
+    say(program, text);
+    how.say(word);
     io::write_all(ERROR, b"\n");
 }
 
@@ -43,13 +62,11 @@ struct Words {
 
 impl Write for Words {
     fn write_str(&mut self, s: &str) -> fmt::Result {
-        for b in s.as_bytes() {
-            let n = self.length;
-            if n < 256 {
-                self.bytes[n] = *b;
-                self.length = n + 1;
-            }
-        }
+        let text = s.as_bytes();
+        let start = self.length.min(256);
+        let n = text.len().min(256 - start);
+        self.bytes[start..start + n].copy_from_slice(&text[..n]);
+        self.length = start + n;
         Ok(())
     }
 }
@@ -58,14 +75,10 @@ impl Write for Words {
 fn before_number(text: &[u8]) -> usize
     ensures { result ≤ length text.now }
 {
-    let mut n = text.len();
-    while n > 0 {
-        n -= 1;
-        if text[n] == b'(' {
-            return if n > 0 { n - 1 } else { 0 };
-        }
+    match text.iter().rposition(|b| *b == b'(') {
+        Some(n) => n.saturating_sub(1),
+        None => text.len(),
     }
-    text.len()
 }
 
 // Why a call failed, in the system's words, and the line's end.
@@ -82,8 +95,13 @@ pub fn say_error(error: Error) {
 
 // What a call could not do, and why, in the system's words.
 pub fn fail(program: &[u8], what: &[u8], error: Error) {
+    fail_by(Plain, program, what, error);
+}
+
+// The same by a way to say what it was.
+pub fn fail_by<S: Says>(how: S, program: &[u8], what: &[u8], error: Error) {
     begin(program);
-    io::write_all(ERROR, what);
+    how.say(what);
     io::write_all(ERROR, b": ");
     say_error(error);
 }

@@ -108,8 +108,7 @@ impl Origin {
     pub fn read(&self, buf: &mut [u8]) -> std::io::Result<usize>
         ensures bound { IfOk result (λ n. n ≤ length buf.new) }
     {
-        let mut turns = u64::MAX;
-        while turns > 0 {
+        for _ in 0..u64::MAX {
             match self.try_read(buf) {
                 Ok(n) => {
                     self.place.set(self.place.get().saturating_add(n as u64));
@@ -122,7 +121,6 @@ impl Origin {
                     }
                 }
             }
-            turns -= 1;
         }
         Err(self.error.get())
     }

@@ -84,12 +84,8 @@ pub fn rename<R: System>(rt: &R, from: &[u8], to: &[u8]) -> std::io::Result<()> 
     rt.rename(path_of(from)?, path_of(to)?)
 }
 
-// Whether it could be removed.
-pub fn remove<R: System>(rt: &R, path: &[u8]) -> bool {
-    match path_of(path) {
-        Ok(path) => rt.remove_file(path).is_ok(),
-        Err(_) => false,
-    }
+pub fn remove<R: System>(rt: &R, path: &[u8]) -> std::io::Result<()> {
+    rt.remove_file(path_of(path)?)
 }
 
 // Whether a file has places, as a plain one: a pipe and a terminal have none.
@@ -183,15 +179,13 @@ impl Sink {
         }
     }
 
-    // Whether all of them could be written.
-    pub fn write_all(&self, bytes: &[u8]) -> bool {
-        match self.try_write_all(bytes) {
-            Ok(()) => true,
-            Err(e) => {
-                self.error.set(e);
-                false
-            }
+    // Writes all of them, or says why it can't.
+    pub fn write_all(&self, bytes: &[u8]) -> std::io::Result<()> {
+        let r = self.try_write_all(bytes);
+        if let Err(e) = &r {
+            self.error.set(*e);
         }
+        r
     }
 
     // Waits until a file's bytes are all on the disk, and closes it.

@@ -1,4 +1,5 @@
 // A file read whole into a buffer, and one that is read on from a place.
+ghost use Rattle.std.specs.Prelude.{IfSome};
 ghost use Rattle.io.specs.Counts.{IsPrefixLen};
 
 use crate::message::fail;
@@ -6,10 +7,9 @@ use crate::origin::Origin;
 use crate::system::System;
 use std::io::ErrorKind;
 
-// Whether a file could be read, how many of its bytes are in the buffer, and whether it has more.
+// How many bytes of a file are in the buffer, and whether it has more.
 #[derive(Clone, Copy)]
 pub struct Contents {
-    pub read: bool,
     pub count: usize,
     pub more: bool,
 }
@@ -37,44 +37,41 @@ fn read_full(from: &Origin, buf: &mut [u8]) -> usize
 
 // The file at a path. One that is not there has no bytes, where it may be new. What can't be opened is said.
 // Ruled out: more bytes counted than the buffer has; bytes counted of a file that could not be opened.
-pub fn whole<R: System>(rt: &R, program: &[u8], path: &[u8], new: bool, buf: &mut [u8]) -> Contents
-    ensures { IsPrefixLen result.count buf.new }
+pub fn whole<R: System>(
+    rt: &R,
+    program: &[u8],
+    path: &[u8],
+    new: bool,
+    buf: &mut [u8],
+) -> Option<Contents>
+    ensures { IfSome result (λ c. IsPrefixLen c.count buf.new) }
 {
     match Origin::open(rt, path) {
         Ok(from) => {
             let count = read_full(&from, buf);
             let more = !at_end(&from);
-            Contents {
-                read: true,
-                count,
-                more,
-            }
+            Some(Contents { count, more })
         }
         Err(e) => {
             if new & (e.kind() == ErrorKind::NotFound) {
-                return Contents {
-                    read: true,
+                return Some(Contents {
                     count: 0,
                     more: false,
-                };
+                });
             }
             fail(program, path, e);
-            Contents {
-                read: false,
-                count: 0,
-                more: false,
-            }
+            None
         }
     }
 }
+
+// The last place that is gone to: no file is longer.
+const LAST: u64 = 1 << 62;
 
 // Whether the next read of a file begins at a place. Where it can't, it begins at the start: a pipe has no other place.
 pub fn seek<R: System>(rt: &R, from: &Origin, place: u64) -> bool {
     if place == 0 {
         return true;
     }
-    if place > 4611686018427387904 {
-        return false;
-    }
-    from.go_to(rt, place)
+    place <= LAST && from.go_to(rt, place)
 }

@@ -5,7 +5,7 @@ ghost use Rattle.files.specs.Words.{same, is_option, kind, joined, joined_length
 
 // What a word of a command is: --help, --version, the first or the second option that the program knows, another option, or none, as a file's name or
 // a number.
-#[derive(Clone, Copy)]
+#[derive(Clone, Copy, PartialEq, Eq)]
 pub enum Word {
     Help,
     Version,

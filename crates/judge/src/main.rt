@@ -25,7 +25,7 @@ fn stop_of(number: u8) -> Stop {
 // The end of the trace, or the record that stopped it.
 fn tell_stop(to: &Sink, stop: u8, at: Run) -> bool {
     if stop == 0 {
-        return to.write_all(b"end of the trace\n");
+        return to.write_all(b"end of the trace\n").is_ok();
     }
     show::write_line(to, stop_line(stop_of(stop), at.records, at.place))
 }
@@ -34,7 +34,7 @@ fn tell_end(to: &Sink, at: Run, stop: u8) -> bool {
     if at.wrong {
         return tell_stop(to, stop, at);
     }
-    let told = to.write_all(b"accepted\n");
+    let told = to.write_all(b"accepted\n").is_ok();
     told & tell_stop(to, stop, at)
 }
 
@@ -60,7 +60,7 @@ fn report(t: Turned, trace: &Origin, log: &Origin, to: &Sink) {
 }
 
 fn main(rt: HostRuntime) {
-    let c = files::command::read(
+    let read = files::command::read(
         &rt,
         b"judge",
         b"",
@@ -86,23 +86,25 @@ stopped it and why: the log is judged up to there.
 Either file may be -, standard input.
 ",
     );
-    if !c.go {
+    if read.is_err() {
         return;
     }
     let mut name = io::buffer();
     let a = files::input::open(&rt, b"judge", 0, &mut name);
     let b = files::input::open(&rt, b"judge", 1, &mut name);
-    let Some(trace) = a.from else {
+    let Some(first) = a else {
         return;
     };
-    let Some(log) = b.from else {
+    let Some(second) = b else {
         return;
     };
+    let trace = &first.from;
+    let log = &second.from;
     if trace.is_standard() & log.is_standard() {
         say(b"judge", b"one of the two files must be named\n");
         return;
     }
     let output = Sink::output(&rt);
-    let t = turns::judge(&rt, &trace, &log, &output);
-    report(t, &trace, &log, &output);
+    let t = turns::judge(&rt, trace, log, &output);
+    report(t, trace, log, &output);
 }

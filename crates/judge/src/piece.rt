@@ -1,6 +1,6 @@
 // A piece of a file in a buffer: what of it is still to be looked at is carried to the start before more is read.
 use files::origin::Origin;
-use files::pieces::{carry, fill, least};
+use files::pieces::{carry, fill};
 use files::system::System;
 
 // The bytes of a buffer from one place up to another, which are still to be looked at, and whether its input has ended.
@@ -22,7 +22,7 @@ pub fn nothing() -> Piece {
 
 // So many bytes further, within the piece.
 pub fn further(p: Piece, n: usize) -> Piece {
-    let from = least(p.from, p.to);
+    let from = p.from.min(p.to);
     if n < p.to - from {
         return Piece {
             from: from + n,
@@ -37,22 +37,18 @@ pub fn further(p: Piece, n: usize) -> Piece {
     }
 }
 
-// A piece with what comes of its input; none where that can't be read.
-#[derive(Clone, Copy)]
-pub struct Reading {
-    pub piece: Piece,
-    pub failed: bool,
-}
-
-pub fn read_on<R: System>(rt: &R, from: &Origin, buf: &mut [u8], p: Piece) -> Reading {
+// A piece with what comes of its input.
+pub fn read_on<R: System>(
+    rt: &R,
+    from: &Origin,
+    buf: &mut [u8],
+    p: Piece,
+) -> std::io::Result<Piece> {
     let have = carry(buf, p.from, p.to);
-    let f = fill(rt, from, buf, have, p.ended);
-    Reading {
-        piece: Piece {
-            from: 0,
-            to: f.total,
-            ended: f.ended,
-        },
-        failed: f.failed,
-    }
+    let f = fill(rt, from, buf, have, p.ended)?;
+    Ok(Piece {
+        from: 0,
+        to: f.total,
+        ended: f.ended,
+    })
 }

@@ -1,7 +1,6 @@
 // The first wrong answer as people read it: its number and field, its record, what the model gives and what the log says.
 use answers::Field;
 use files::output::write_first;
-use files::pieces::least;
 use files::system::Sink;
 use qsm::state::Module;
 use text::line::Line;
@@ -13,7 +12,7 @@ use trace::{ANSWER_LENGTH, Parsed};
 pub fn write_line(to: &Sink, line: Line) -> bool {
     let n = line.length;
     let bytes = line.bytes;
-    write_first(to, &bytes, n)
+    write_first(to, &bytes, n).is_ok()
 }
 
 fn wrong_line(n: u64, f: Field) -> Line {
@@ -27,7 +26,7 @@ fn wrong_line(n: u64, f: Field) -> Line {
 
 // Up to the bytes of an answer in hexadecimal.
 fn hex(line: Line, bytes: &[u8]) -> Line {
-    let n = least(ANSWER_LENGTH, bytes.len());
+    let n = ANSWER_LENGTH.min(bytes.len());
     let mut l = line;
     let mut i = 0;
     while i < n {
@@ -69,7 +68,7 @@ pub fn show(
     written: usize,
     log: &[u8],
 ) -> bool {
-    let size = least(written, chip.len());
+    let size = written.min(chip.len());
     let told = write_line(to, wrong_line(n, f));
     let record = show_record(to, n, rest);
     let gives = write_line(
@@ -99,9 +98,9 @@ pub fn show_wrong<'a>(
     k: usize,
     f: Field,
 ) -> bool {
-    let at = least(bytes_of(k, l.len()), l.len());
+    let at = bytes_of(k, l.len()).min(l.len());
     let w = tool_judge::walk(m, t, &l[0..at], false);
-    let from = least(w.read, t.len());
+    let from = w.read.min(t.len());
     let before = w.state;
     let room = [0u8; ANSWER_LENGTH];
     let r = tool_judge::run(before, &t[from..], &room, false);

@@ -5,19 +5,16 @@ use crate::run::{Next, Run, Turned, advance, found, start, with_log, with_trace}
 use crate::show::show;
 use answers::Field;
 use files::origin::Origin;
-use files::pieces::least;
 use files::system::{Sink, System};
 
 fn more_trace<R: System>(rt: &R, from: &Origin, buf: &mut [u8], run: Run) -> Turned {
     let p = run.trace;
-    let m = read_on(rt, from, buf, p);
-    let piece = m.piece;
-    if m.failed {
+    let Ok(piece) = read_on(rt, from, buf, p) else {
         return Turned {
             run,
             next: Next::NotRead(true),
         };
-    }
+    };
     Turned {
         run: with_trace(run, piece),
         next: Next::More,
@@ -26,14 +23,12 @@ fn more_trace<R: System>(rt: &R, from: &Origin, buf: &mut [u8], run: Run) -> Tur
 
 fn more_log<R: System>(rt: &R, from: &Origin, bytes: &mut [u8], run: Run) -> Turned {
     let p = run.log;
-    let m = read_on(rt, from, bytes, p);
-    let piece = m.piece;
-    if m.failed {
+    let Ok(piece) = read_on(rt, from, bytes, p) else {
         return Turned {
             run,
             next: Next::NotRead(false),
         };
-    }
+    };
     Turned {
         run: with_log(run, piece),
         next: Next::More,
@@ -70,8 +65,8 @@ fn surplus<R: System>(rt: &R, from: &Origin, bytes: &mut [u8], run: Run) -> Turn
 
 // Shows those bytes, which are a wrong answer.
 fn tell_surplus(to: &Sink, bytes: &[u8], run: Run, stop: u8) -> Turned {
-    let end = least(run.log.to, bytes.len());
-    let from = least(run.log.from, end);
+    let end = run.log.to.min(bytes.len());
+    let from = run.log.from.min(end);
     if show(to, run.records, Field::Kind, b"", b"", 0, &bytes[from..end]) {
         return Turned {
             run: found(run),
@@ -124,10 +119,10 @@ fn turn<R: System>(
     buf: &mut [u8],
     bytes: &mut [u8],
 ) -> Turned {
-    let end = least(run.trace.to, buf.len());
-    let from = least(run.trace.from, end);
-    let stop = least(run.log.to, bytes.len());
-    let first = least(run.log.from, stop);
+    let end = run.trace.to.min(buf.len());
+    let from = run.trace.from.min(end);
+    let stop = run.log.to.min(bytes.len());
+    let first = run.log.from.min(stop);
     let a = advance(to, run, &buf[from..end], &bytes[first..stop]);
     let after = a.run;
     let next = a.next;

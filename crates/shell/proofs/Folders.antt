@@ -26,10 +26,8 @@ module _ (n : ℕ) (path : List ℕ) (some : 0 < n) where
   last : n ≡ suc (n - 1)
   last = omega (arith, some)
 
-  pub stands : get_or path (n - 1) 0 ≡ 47 → folder_of n path ≡ n
-  stands is =
-      let back : n - 1 + 1 ≡ n = omega (arith, some) in
-      ap (λ (k : ℕ). folder_of k path) last ∙ slash (n - 1) path is ∙ back
+  pub stands : get_or path (n - 1) 0 ≡ 47 → folder_of n path ≡ n - 1 + 1
+  stands is = ap (λ (k : ℕ). folder_of k path) last ∙ slash (n - 1) path is
 
   pub passes : (get_or path (n - 1) 0 ≡ 47 → ⊥) → folder_of n path ≡ folder_of (n - 1) path
   passes is = ap (λ (k : ℕ). folder_of k path) last ∙ other (n - 1) path is

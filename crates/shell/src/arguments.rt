@@ -4,32 +4,31 @@ ghost use Rattle.shell.specs.Arguments.{none, flagged, waiting, valued, plain, u
 
 use crate::options::Kind;
 
-// What was seen so far. Places are numbers of arguments, and 0 where there is none.
+// What was seen so far. Places are numbers of arguments.
 #[derive(Clone, Copy)]
 pub struct Seen {
     pub help: bool,
     pub version: bool,
     // Behind --, where no word is an option.
     pub ended: bool,
-    // The option that waits for its value, by its number; 16 where none does.
-    pub waits: u8,
+    // The option that waits for its value, by its number.
+    pub waits: Option<u8>,
     // The first option that is not known.
-    pub unknown: usize,
+    pub unknown: Option<usize>,
     // Words that are no options: up to 8, and 9 for more.
     pub words: usize,
-    // The last place of each option that stands alone, and of each option's value.
-    pub flags: [usize; 16],
-    pub values: [usize; 16],
-    pub places: [usize; 8],
+    // The last place of each option that stands alone, and of each option's value; the places of the first words.
+    pub flags: [Option<usize>; 16],
+    pub values: [Option<usize>; 16],
+    pub places: [Option<usize>; 8],
 }
 
-// Whether a command goes on, and why it doesn't.
-#[derive(Clone, Copy)]
-pub enum Verdict {
-    Go,
+// Why a command does not go on. The option that is not known is told by its place.
+#[derive(Clone, Copy, PartialEq, Eq)]
+pub enum Refusal {
     Help,
     Version,
-    Unknown,
+    Unknown(usize),
     NoValue,
     TooFew,
     TooMany,
@@ -44,12 +43,12 @@ impl Seen {
             help: false,
             version: false,
             ended: false,
-            waits: 16,
-            unknown: 0,
+            waits: None,
+            unknown: None,
             words: 0,
-            flags: [0; 16],
-            values: [0; 16],
-            places: [0; 8],
+            flags: [None; 16],
+            values: [None; 16],
+            places: [None; 8],
         }
     }
 
@@ -57,23 +56,23 @@ impl Seen {
         ensures { result ≡ flagged self k i }
     {
         let at = (k % 16) as usize;
-        self.flags[at] = i;
+        self.flags[at] = Some(i);
         self
     }
 
     fn waiting(mut self, k: u8) -> Seen
         ensures { result ≡ waiting self k }
     {
-        self.waits = k;
+        self.waits = Some(k);
         self
     }
 
-    fn valued(mut self, i: usize) -> Seen
-        ensures { result ≡ valued self i }
+    fn valued(mut self, k: u8, i: usize) -> Seen
+        ensures { result ≡ valued self k i }
     {
-        let at = (self.waits % 16) as usize;
-        self.values[at] = i;
-        self.waits = 16;
+        let at = (k % 16) as usize;
+        self.values[at] = Some(i);
+        self.waits = None;
         self
     }
 
@@ -82,7 +81,7 @@ impl Seen {
     {
         let at = self.words;
         if at < 8 {
-            self.places[at] = i;
+            self.places[at] = Some(i);
             self.words = at + 1;
             return self;
         }
@@ -93,9 +92,7 @@ impl Seen {
     fn unknown(mut self, i: usize) -> Seen
         ensures { result ≡ unknown self i }
     {
-        if self.unknown == 0 {
-            self.unknown = i;
-        }
+        self.unknown = self.unknown.or(Some(i));
         self
     }
 
@@ -125,8 +122,8 @@ impl Seen {
     pub fn taken(self, i: usize, kind: Kind) -> Seen
         ensures { result ≡ taken self i kind }
     {
-        if self.waits < 16 {
-            return self.valued(i);
+        if let Some(k) = self.waits {
+            return self.valued(k, i);
         }
         if self.ended {
             return self.plain(i);
@@ -144,27 +141,27 @@ impl Seen {
 
     // What all of it comes to, for a command of so many words.
     // Ruled out: a command that goes on without a word that it needs, with one that it won't look at, or with an option that it doesn't know.
-    pub fn judged(self, least: usize, most: usize) -> Verdict
+    pub fn judged(self, least: usize, most: usize) -> Result<(), Refusal>
         ensures { result ≡ judged self least most }
     {
         if self.help {
-            return Verdict::Help;
+            return Err(Refusal::Help);
         }
         if self.version {
-            return Verdict::Version;
+            return Err(Refusal::Version);
         }
-        if self.unknown > 0 {
-            return Verdict::Unknown;
+        if let Some(i) = self.unknown {
+            return Err(Refusal::Unknown(i));
         }
-        if self.waits < 16 {
-            return Verdict::NoValue;
+        if self.waits.is_some() {
+            return Err(Refusal::NoValue);
         }
         if self.words < least {
-            return Verdict::TooFew;
+            return Err(Refusal::TooFew);
         }
         if self.words > most {
-            return Verdict::TooMany;
+            return Err(Refusal::TooMany);
         }
-        Verdict::Go
+        Ok(())
     }
 }

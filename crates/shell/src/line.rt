@@ -1,23 +1,14 @@
 // A command line read: options anywhere before --, values behind the options that take one, and words. -h, --help and --version are answered, and what
 // is not expected is said.
-ghost use Rattle.std.specs.Prelude.{◌≡◌, true, false};
-ghost use Rattle.shell.specs.Arguments.{none, Goes};
+ghost use Rattle.std.specs.Prelude.{IfOk};
+ghost use Rattle.shell.specs.Arguments.{Goes};
 
-use crate::arguments::{Seen, Verdict};
-use crate::message::{fail, say_of};
+use crate::arguments::{Refusal, Seen};
+use crate::message::say_of;
 use crate::options::{Kind, kind_of};
-use files::command::{argument, count};
+use files::command::{Stopped, argument, count, print_help, print_version};
 use files::message::{ERROR, say};
-use files::system::{Sink, System};
-use files::version::print_version;
-
-// Whether the command goes on, or something was wrong, and its options and words.
-#[derive(Clone, Copy)]
-pub struct Given {
-    pub go: bool,
-    pub wrong: bool,
-    pub seen: Seen,
-}
+use files::system::System;
 
 // A word that is longer than any path counts as an empty one.
 fn kind_at<R: System>(rt: &R, i: usize, flags: &[u8], valued: &[u8]) -> Kind {
@@ -27,13 +18,9 @@ fn kind_at<R: System>(rt: &R, i: usize, flags: &[u8], valued: &[u8]) -> Kind {
 }
 
 fn see<R: System>(rt: &R, from: usize, flags: &[u8], valued: &[u8]) -> Seen {
-    let total = count(rt);
     let mut seen = Seen::none();
-    let mut i = from;
-    while i < total {
-        let kind = kind_at(rt, i, flags, valued);
-        seen = seen.taken(i, kind);
-        i += 1;
+    for i in from..count(rt) {
+        seen = seen.taken(i, kind_at(rt, i, flags, valued));
     }
     seen
 }
@@ -46,40 +33,9 @@ fn say_argument<R: System>(rt: &R, program: &[u8], text: &[u8], i: usize) {
 }
 
 fn say_no_value<R: System>(rt: &R, program: &[u8]) {
-    let total = count(rt);
-    if total > 0 {
-        say_argument(rt, program, b"no value for ", total - 1);
+    if let Some(last) = count(rt).checked_sub(1) {
+        say_argument(rt, program, b"no value for ", last);
     }
-}
-
-// The usage and the help on standard output; whether they could not be written, which is said.
-fn print_help<R: System>(rt: &R, program: &[u8], usage: &[u8], help: &[u8]) -> bool {
-    let output = Sink::output(rt);
-    if output.write_all(usage) {
-        if output.write_all(help) {
-            return false;
-        }
-    }
-    fail(program, b"standard output", output.error());
-    true
-}
-
-fn stopped(wrong: bool) -> Given
-    ensures { result ≡ record { go = false; wrong = wrong; seen = none } }
-{
-    let seen = Seen::none();
-    Given {
-        go: false,
-        wrong,
-        seen,
-    }
-}
-
-fn refused(usage: &[u8]) -> Given
-    ensures { result ≡ record { go = false; wrong = true; seen = none } }
-{
-    io::write_all(ERROR, usage);
-    stopped(true)
 }
 
 // The command from an argument on; from argument 0, which is no word of it, its help is asked for. It has options that stand alone and options that a value
@@ -96,37 +52,22 @@ pub fn read_line<R: System>(
     most: usize,
     usage: &[u8],
     help: &[u8],
-) -> Given
-    ensures { Goes least most result.go result.seen }
+) -> Result<Seen, Stopped>
+    ensures { IfOk result (λ seen. Goes least most seen) }
 {
     if from == 0 {
-        return stopped(print_help(rt, program, usage, help));
+        return Err(print_help(rt, program, usage, help));
     }
     let seen = see(rt, from, flags, valued);
-    let verdict = seen.judged(least, most);
-    match verdict {
-        Verdict::Go => Given {
-            go: true,
-            wrong: false,
-            seen,
-        },
-        Verdict::Help => stopped(print_help(rt, program, usage, help)),
-        Verdict::Version => stopped(print_version(rt, program)),
-        Verdict::Unknown => {
-            say_argument(rt, program, b"unknown option ", seen.unknown);
-            refused(usage)
-        }
-        Verdict::NoValue => {
-            say_no_value(rt, program);
-            refused(usage)
-        }
-        Verdict::TooFew => {
-            say(program, b"too few arguments\n");
-            refused(usage)
-        }
-        Verdict::TooMany => {
-            say(program, b"too many arguments\n");
-            refused(usage)
-        }
+    match seen.judged(least, most) {
+        Ok(()) => return Ok(seen),
+        Err(Refusal::Help) => return Err(print_help(rt, program, usage, help)),
+        Err(Refusal::Version) => return Err(print_version(rt, program)),
+        Err(Refusal::Unknown(i)) => say_argument(rt, program, b"unknown option ", i),
+        Err(Refusal::NoValue) => say_no_value(rt, program),
+        Err(Refusal::TooFew) => say(program, b"too few arguments\n"),
+        Err(Refusal::TooMany) => say(program, b"too many arguments\n"),
     }
+    io::write_all(ERROR, usage);
+    Err(Stopped::Wrong)
 }

@@ -2,7 +2,7 @@
 ghost use Rattle.std.specs.Prelude.{◌≡◌, ◌%◌};
 ghost use Rattle.shell.specs.Escapes.{hex_digit, printable, escape};
 
-use files::message::{ERROR, say_error};
+use files::message::{ERROR, Says, fail_by, say_of_by};
 use std::io::Error;
 
 // A digit, in capitals.
@@ -42,24 +42,24 @@ fn say_byte(b: u8) {
     io::write_all(ERROR, &e);
 }
 
-// Bytes of a name or a file.
-pub fn say_bytes(bytes: &[u8]) {
-    for b in bytes {
-        say_byte(*b);
+// As names and files are said: with what a terminal would not show escaped.
+#[derive(Clone, Copy)]
+pub struct Escaped;
+
+impl Says for Escaped {
+    fn say(self, bytes: &[u8]) {
+        for b in bytes {
+            say_byte(*b);
+        }
     }
 }
 
 // A message on a word, as a name that is not known.
 pub fn say_of(program: &[u8], text: &[u8], word: &[u8]) {
-    files::message::say(program, text);
-    say_bytes(word);
-    io::write_all(ERROR, b"\n");
+    say_of_by(Escaped, program, text, word);
 }
 
 // What a call could not do, and why, in the system's words.
 pub fn fail(program: &[u8], what: &[u8], error: Error) {
-    files::message::say(program, b"");
-    say_bytes(what);
-    io::write_all(ERROR, b": ");
-    say_error(error);
+    fail_by(Escaped, program, what, error);
 }

@@ -1,12 +1,12 @@
 // The options of a command: what kind a word is, by the names that the command knows.
-ghost use Rattle.std.specs.Prelude.{◌≡◌, ◌≤◌, length};
-ghost use Rattle.shell.specs.Options.{index_of, position, named, kind_of};
+ghost use Rattle.std.specs.Prelude.{◌≡◌, ◌<◌, length, IfSome};
+ghost use Rattle.shell.specs.Options.{blank, position, named, kind_of};
 
 use files::words::{is_option, same};
 
 // A word is none, as a file's name; -h or --help; --version; --, behind which no word is an option; an option that stands alone or one that a value
 // follows, by its number in the command's list; or an option that the command doesn't know.
-#[derive(Clone, Copy)]
+#[derive(Clone, Copy, PartialEq, Eq)]
 pub enum Kind {
     Plain,
     Help,
@@ -17,63 +17,45 @@ pub enum Kind {
     Unknown,
 }
 
-// The length of the first name of a list; that of the list where it has none.
-fn first_name(names: &[u8]) -> usize
-    ensures value { result ≡ index_of 32 names.now }
-    ensures upper_bound { result ≤ length names.now }
+// The length of the first name of a list, up to the blank behind it.
+fn blank(names: &[u8]) -> Option<usize>
+    ensures value { result ≡ blank names.now }
+    ensures within { IfSome result (λ n. n < length names.now) }
 {
-    let mut n = 0;
-    while n < names.len() {
-        if names[n] == 32 {
-            return n;
-        }
-        n += 1;
-    }
-    n
+    names.iter().position(|b| *b == b' ')
 }
 
-// The number, from 0, of the name that a word is, in a list in which a blank follows each name; 16 where it is none of the first 16.
+// The number, from 0, of the name that a word is, in a list in which a blank follows each name; none where it is none of the first 16.
 // Ruled out: the beginning of a name taken for it; the number of another name.
-pub fn position(word: &[u8], names: &[u8]) -> u8
+pub fn position(word: &[u8], names: &[u8]) -> Option<u8>
     ensures { result ≡ position word.now names.now }
 {
-    let mut at = 0;
-    let mut k: u8 = 0;
-    while k < 16 {
-        let n = first_name(&names[at..]);
-        let end = at + n;
-        if end >= names.len() {
-            return 16;
+    let mut rest = names;
+    for k in 0..16u8 {
+        let Some(n) = blank(rest) else {
+            return None;
+        };
+        if same(word, &rest[..n]) {
+            return Some(k);
         }
-        if same(word, &names[at..end]) {
-            return k;
-        }
-        at = end + 1;
-        k += 1;
+        rest = &rest[n + 1..];
     }
-    16
+    None
 }
 
 // By its number among the options of every command, among those that stand alone, and among those that a value follows.
-fn named(common: u8, flag: u8, valued: u8) -> Kind
+fn named(common: Option<u8>, flag: Option<u8>, valued: Option<u8>) -> Kind
     ensures { result ≡ named common flag valued }
 {
-    if common < 2 {
-        return Kind::Help;
+    match (common, flag, valued) {
+        (Some(0), _, _) => Kind::Help,
+        (Some(1), _, _) => Kind::Help,
+        (Some(2), _, _) => Kind::Version,
+        (Some(3), _, _) => Kind::End,
+        (_, Some(k), _) => Kind::Flag(k),
+        (_, None, Some(k)) => Kind::Valued(k),
+        (_, None, None) => Kind::Unknown,
     }
-    if common == 2 {
-        return Kind::Version;
-    }
-    if common == 3 {
-        return Kind::End;
-    }
-    if flag < 16 {
-        return Kind::Flag(flag);
-    }
-    if valued < 16 {
-        return Kind::Valued(valued);
-    }
-    Kind::Unknown
 }
 
 // What a word is. The options of every command are -h, --help, --version and --, in this order.

@@ -3,10 +3,9 @@ ghost use Rattle.std.specs.Prelude.{◌≡◌, ◌≤◌, length, IfOk};
 ghost use Rattle.io.specs.Counts.{IsPrefixLen};
 ghost use Rattle.shell.specs.Folder.{folder};
 
-use crate::message::fail;
-use files::output::placed;
-use files::pieces::least;
-use files::system::{Sink, System, create, has_places, is_invalid, open_append, path_of, remove};
+use crate::message::{Escaped, fail};
+use files::output::{finish_by, first};
+use files::system::{Sink, System, create, has_places, is_invalid, open_append, path_of};
 use files::words::{join, same};
 use std::fs::File;
 use std::io::{Error, ErrorKind};
@@ -16,12 +15,18 @@ const EXISTS: i32 = 17;
 
 const INVALID: i32 = 22;
 
-// What is written, or nothing; how long the name of the file is that is made first, or 0 where there is none; and that of the file whose place it takes.
-#[derive(Drop)]
-pub struct Target {
-    pub sink: Option<Sink>,
+// A file that is made first: how long its name is, and that of the file whose place it takes.
+#[derive(Clone, Copy)]
+pub struct Made {
     pub beside: usize,
     pub place: usize,
+}
+
+// What is written, which is what a path names or a file that is made first.
+#[derive(Drop)]
+pub struct Target {
+    pub sink: Sink,
+    pub made: Option<Made>,
 }
 
 // The length of a path up to its last slash, with it.
@@ -30,12 +35,10 @@ pub fn folder(path: &[u8]) -> usize
     ensures value { result ≡ folder path.now }
     ensures upper_bound { result ≤ length path.now }
 {
-    let mut n = path.len();
-    while n > 0 {
-        if path[n - 1] == 47 {
-            return n;
+    for i in (0..path.len()).rev() {
+        if path[i] == b'/' {
+            return i + 1;
         }
-        n -= 1;
     }
     0
 }
@@ -44,7 +47,7 @@ pub fn folder(path: &[u8]) -> usize
 fn within(n: usize, bytes: &[u8]) -> usize
     ensures { IsPrefixLen result bytes.now }
 {
-    least(n, bytes.len())
+    n.min(bytes.len())
 }
 
 // A text at the start of a buffer, and its length; 0 where it is too long.
@@ -71,62 +74,42 @@ fn link<R: System>(rt: &R, path: &[u8], text: &mut [u8]) -> std::io::Result<usiz
 // A text behind the first so many bytes of a buffer, and how long both are; 0 where they are too long.
 fn lead(place: &mut [u8], d: usize, text: &[u8]) -> usize {
     let mut before = io::buffer();
-    let k = within(d, place);
-    let n = join(&place[..k], b"", &mut before);
+    let n = join(first(place, d), b"", &mut before);
     join(&before[..n], text, place)
 }
 
 // Where the link at the start of a buffer leads, which is put there; 0 where there is none.
 fn follow<R: System>(rt: &R, place: &mut [u8], n: usize) -> std::io::Result<usize> {
     let mut text = io::buffer();
-    let some = within(n, place);
-    let m = link(rt, &place[..some], &mut text)?;
+    let path = first(place, n);
+    let d = folder(path);
+    let m = link(rt, path, &mut text)?;
     if m == 0 {
         return Ok(0);
     }
-    if text[0] == 47 {
-        return Ok(lead(place, 0, &text[..m]));
-    }
-    let d = folder(&place[..some]);
-    Ok(lead(place, d, &text[..m]))
+    let start = if text[0] == b'/' { 0 } else { d };
+    Ok(lead(place, start, &text[..m]))
 }
 
 // The path of what a path names in the end, at the start of a buffer, and its length. Links are followed, up to forty.
 fn resolve<R: System>(rt: &R, path: &[u8], place: &mut [u8]) -> std::io::Result<usize> {
     let mut n = join(path, b"", place);
-    let mut turns: u64 = 40;
-    while turns > 0 {
+    for _ in 0..40 {
         let m = follow(rt, place, n)?;
         if m == 0 {
-            return Ok(n);
+            break;
         }
         n = m;
-        turns -= 1;
     }
     Ok(n)
-}
-
-fn none() -> Target {
-    Target {
-        sink: None,
-        beside: 0,
-        place: 0,
-    }
 }
 
 // Six letters at the end of a name, by a number.
 fn letter(name: &mut [u8], number: u32) {
     let mut left = number;
-    let mut i = name.len();
-    let mut k: u32 = 0;
-    while k < 6 {
-        if i == 0 {
-            return;
-        }
-        i -= 1;
-        name[i] = 97 + (left % 26) as u8;
+    for b in name.iter_mut().rev().take(6) {
+        *b = b'a' + (left % 26) as u8;
         left /= 26;
-        k += 1;
     }
 }
 
@@ -143,10 +126,9 @@ fn fresh<R: System>(rt: &R, name: &mut [u8]) -> std::io::Result<Sink> {
     if name.len() < 6 {
         return Err(Error::from_raw_os_error(INVALID));
     }
-    let mut number = begin_names(rt);
-    let mut turns: u32 = 238328;
-    while turns > 0 {
-        letter(name, number);
+    let number = begin_names(rt);
+    for turn in 0..238328 {
+        letter(name, number.wrapping_add(turn));
         match create(rt, name) {
             Ok(file) => return Ok(Sink::file(file)),
             Err(e) => {
@@ -155,8 +137,6 @@ fn fresh<R: System>(rt: &R, name: &mut [u8]) -> std::io::Result<Sink> {
                 }
             }
         }
-        number = number.wrapping_add(1);
-        turns -= 1;
     }
     Err(Error::from_raw_os_error(EXISTS))
 }
@@ -170,13 +150,15 @@ fn make<R: System>(
 ) -> std::io::Result<Target> {
     let found = resolve(rt, path, place)?;
     let n = within(found, place);
-    let d = within(folder(&place[..n]), place);
+    let d = folder(&place[..n]);
     let m = join(&place[..d], b".qsm-XXXXXX", beside);
     let sink = fresh(rt, &mut beside[..m])?;
     Ok(Target {
-        sink: Some(sink),
-        beside: m,
-        place: n,
+        sink,
+        made: Some(Made {
+            beside: m,
+            place: n,
+        }),
     })
 }
 
@@ -204,9 +186,8 @@ fn open<R: System>(
                 return make(rt, path, place, beside);
             }
             Ok(Target {
-                sink: Some(Sink::file(file)),
-                beside: 0,
-                place: 0,
+                sink: Sink::file(file),
+                made: None,
             })
         }
         Err(e) => {
@@ -226,40 +207,20 @@ pub fn begin<R: System>(
     path: &[u8],
     place: &mut [u8],
     beside: &mut [u8],
-) -> Target {
+) -> Option<Target> {
     if same(path, b"-") {
-        return Target {
-            sink: Some(Sink::output(rt)),
-            beside: 0,
-            place: 0,
-        };
+        return Some(Target {
+            sink: Sink::output(rt),
+            made: None,
+        });
     }
     match open(rt, path, place, beside) {
-        Ok(t) => t,
+        Ok(t) => Some(t),
         Err(e) => {
             fail(program, path, e);
-            none()
+            None
         }
     }
-}
-
-// Whether the new file took the place of the old one. Otherwise it is removed, and the old one stands.
-fn replaced<R: System>(
-    rt: &R,
-    program: &[u8],
-    sink: Sink,
-    name: &[u8],
-    path: &[u8],
-    whole: bool,
-) -> bool {
-    if whole {
-        match placed(rt, sink, name, path) {
-            Ok(()) => return true,
-            Err(e) => fail(program, path, e),
-        }
-    }
-    remove(rt, name);
-    false
 }
 
 // Ends it: whether all of it is written where it belongs. A file that was not written whole takes no place. What goes wrong here is said.
@@ -271,13 +232,17 @@ pub fn finish<R: System>(
     beside: &[u8],
     whole: bool,
 ) -> bool {
-    let n = within(t.place, place);
-    let m = within(t.beside, beside);
-    if m == 0 {
+    let Some(made) = t.made else {
         return whole;
-    }
-    match t.sink {
-        Some(sink) => replaced(rt, program, sink, &beside[..m], &place[..n], whole),
-        None => false,
-    }
+    };
+    let name = first(beside, made.beside);
+    finish_by(
+        rt,
+        Escaped,
+        program,
+        t.sink,
+        name,
+        first(place, made.place),
+        whole,
+    )
 }

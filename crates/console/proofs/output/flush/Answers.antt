@@ -1,5 +1,5 @@
-use Rattle.std.proofs.Common.{sym, ap, ◌∙◌, take, ℕ, append-nil}
-use Rattle.console.proofs.Giving.{refused, went, within}
+use Rattle.std.proofs.Common.{sym, ◌∙◌, append-nil}
+use Rattle.console.proofs.Giving.{refused, went}
 use Rattle.console.proofs.output.flush.Goals as goal
 
 pub returns-then-out-clause-gives : goal.returns-then-out-clause-gives
@@ -7,6 +7,5 @@ returns-then-out-clause-gives c = refused c.args.out c.args.buf.now _ c.if-out.t
 
 pub returns-clause-gives : goal.returns-clause-gives
 returns-clause-gives c =
-    let buf = c.args.buf.now in
-    let is = append-nil _ ∙ sym (ap (λ (k : ℕ). take k buf) c.least-n.ensures ∙ within c.args.out.waits buf) in
-    rw c.after.ensures (went c.args.out buf _ (take c.least-n.result buf) c.hand.result c.if-out.false is c.hand.ensures)
+    rw c.after.ensures
+    (went c.args.out c.args.buf.now _ _ c.hand.result c.if-out.false (append-nil _ ∙ sym c.first.ensures) c.hand.ensures)

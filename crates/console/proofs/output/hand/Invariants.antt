@@ -1,8 +1,5 @@
 use Rattle.std.proofs.Common.{length, ◌≤◌}
 use Rattle.console.proofs.output.hand.Given as goal
 
-abbrev pub invariant-loop-at : goal.invariant-loop-at
-invariant-loop-at l = l.at ≤ length l.bytes
-
-abbrev pub decreases-loop-at : goal.decreases-loop-at
-decreases-loop-at l = l.turns
+abbrev pub invariant-loop : goal.invariant-loop
+invariant-loop l = l.at ≤ length l.bytes
