@@ -1,10 +1,9 @@
 // What is asked for, from the words of the command.
-ghost use Rattle.std.specs.Prelude.{◌≡◌};
-ghost use Rattle.cmd_editions.specs.Words.{hex_value, of_digits, register_of};
+ghost use Rattle.std.specs.Prelude.{◌≡◌, ◌≤◌, IfSome};
+ghost use Rattle.cmd_editions.specs.Words.{hex_value, register_of};
 
 use files::command::argument;
 use files::system::System;
-use files::words::same;
 use shell::arguments::Seen;
 use text::number::{Number, parse_number};
 use tool_editions::records::Edition;
@@ -16,181 +15,86 @@ pub enum Verb {
     Get(u16),
     Newest,
     List,
-    Unknown,
 }
 
-#[derive(Clone, Copy)]
-pub enum Word {
-    Is(u16),
-    NoWord,
-}
-
-// The value of a hexadecimal digit; 16 for what is none.
-fn hex_value(b: u8) -> u32
-    ensures { result ≡ hex_value b }
+// The value of a hexadecimal digit.
+fn hex_value(b: u8) -> Option<u32>
+    ensures value { result ≡ hex_value b }
+    ensures within { IfSome result (λ d. d ≤ 15) }
 {
-    if b < 48 {
-        return 16;
+    match b {
+        b'0'..=b'9' => Some((b - b'0') as u32),
+        b'A'..=b'F' => Some((b - b'A') as u32 + 10),
+        b'a'..=b'f' => Some((b - b'a') as u32 + 10),
+        _ => None,
     }
-    if b < 58 {
-        return (b - 48) as u32;
-    }
-    if b < 65 {
-        return 16;
-    }
-    if b < 71 {
-        return (b - 55) as u32;
-    }
-    if b < 97 {
-        return 16;
-    }
-    if b < 103 {
-        return (b - 87) as u32;
-    }
-    16
-}
-
-// A word of four digits, if each is one.
-fn of_digits(a: u32, b: u32, c: u32, d: u32) -> Word
-    ensures { result ≡ of_digits a b c d }
-{
-    if a > 15 {
-        return Word::NoWord;
-    }
-    if b > 15 {
-        return Word::NoWord;
-    }
-    if c > 15 {
-        return Word::NoWord;
-    }
-    if d > 15 {
-        return Word::NoWord;
-    }
-    Word::Is((a * 4096 + b * 256 + c * 16 + d) as u16)
 }
 
 // A register: four hexadecimal digits.
-fn register_of(word: &[u8]) -> Word
+fn register_of(word: &[u8]) -> Option<u16>
     ensures { result ≡ register_of word.now }
 {
     if word.len() != 4 {
-        return Word::NoWord;
+        return None;
     }
-    of_digits(
-        hex_value(word[0]),
-        hex_value(word[1]),
-        hex_value(word[2]),
-        hex_value(word[3]),
-    )
+    let a = hex_value(word[0])?;
+    let b = hex_value(word[1])?;
+    let c = hex_value(word[2])?;
+    let d = hex_value(word[3])?;
+    Some((a * 4096 + b * 256 + c * 16 + d) as u16)
 }
 
 // An edition's number, in decimal.
-fn number_of(word: &[u8]) -> Word {
+fn number_of(word: &[u8]) -> Option<u16> {
     match parse_number(word) {
-        Number::Is(n) => {
-            if n < 65536 {
-                return Word::Is((n % 65536) as u16);
-            }
-            Word::NoWord
-        }
-        Number::NoNumber => Word::NoWord,
+        Number::Is(n) => u16::try_from(n).ok(),
+        Number::NoNumber => None,
     }
 }
 
 // The register, and the number, that the argument at a place is.
-fn register<R: System>(rt: &R, place: usize) -> Word {
+fn register<R: System>(rt: &R, place: Option<usize>) -> Option<u16> {
     let mut buf = io::buffer();
-    let n = argument(rt, place, &mut buf);
+    let n = argument(rt, place?, &mut buf);
     register_of(&buf[..n])
 }
 
-fn number<R: System>(rt: &R, place: usize) -> Word {
+fn number<R: System>(rt: &R, place: Option<usize>) -> Option<u16> {
     let mut buf = io::buffer();
-    let n = argument(rt, place, &mut buf);
+    let n = argument(rt, place?, &mut buf);
     number_of(&buf[..n])
 }
 
-fn edition<R: System>(rt: &R, n: u16, places: [usize; 8]) -> Verb {
-    let Word::Is(sccr0) = register(rt, places[3]) else {
-        return Verb::Unknown;
-    };
-    let Word::Is(sccr1) = register(rt, places[4]) else {
-        return Verb::Unknown;
-    };
-    let Word::Is(spcr0) = register(rt, places[5]) else {
-        return Verb::Unknown;
-    };
-    let Word::Is(spcr1) = register(rt, places[6]) else {
-        return Verb::Unknown;
-    };
-    Verb::Add(Edition {
-        number: n,
-        sccr0,
-        sccr1,
-        spcr0,
-        spcr1,
+fn edition<R: System>(rt: &R, places: [Option<usize>; 8]) -> Option<Edition> {
+    Some(Edition {
+        number: number(rt, places[2])?,
+        sccr0: register(rt, places[3])?,
+        sccr1: register(rt, places[4])?,
+        spcr0: register(rt, places[5])?,
+        spcr1: register(rt, places[6])?,
     })
 }
 
-// The verbs of two words, of three and of seven.
-fn short(name: &[u8]) -> Verb {
-    if same(name, b"newest") {
-        return Verb::Newest;
+// The verb of a name and so many words, the file's name among them.
+fn by_name<R: System>(
+    rt: &R,
+    name: &[u8],
+    words: usize,
+    places: [Option<usize>; 8],
+) -> Option<Verb> {
+    match (name, words) {
+        (b"add", 7) => Some(Verb::Add(edition(rt, places)?)),
+        (b"withdraw", 3) => Some(Verb::Withdraw(number(rt, places[2])?)),
+        (b"get", 3) => Some(Verb::Get(number(rt, places[2])?)),
+        (b"newest", 2) => Some(Verb::Newest),
+        (b"list", 2) => Some(Verb::List),
+        _ => None,
     }
-    if same(name, b"list") {
-        return Verb::List;
-    }
-    Verb::Unknown
 }
 
-fn numbered(name: &[u8], n: u16) -> Verb {
-    if same(name, b"withdraw") {
-        return Verb::Withdraw(n);
-    }
-    if same(name, b"get") {
-        return Verb::Get(n);
-    }
-    Verb::Unknown
-}
-
-fn long<R: System>(rt: &R, name: &[u8], n: u16, places: [usize; 8]) -> Verb {
-    if same(name, b"add") {
-        return edition(rt, n, places);
-    }
-    Verb::Unknown
-}
-
-fn by_words<R: System>(rt: &R, name: &[u8], words: usize, places: [usize; 8]) -> Verb {
-    if words == 2 {
-        return short(name);
-    }
-    let Word::Is(n) = number(rt, places[2]) else {
-        return Verb::Unknown;
-    };
-    if words == 3 {
-        return numbered(name, n);
-    }
-    if words == 7 {
-        return long(rt, name, n, places);
-    }
-    Verb::Unknown
-}
-
-// What the command asks for; Unknown where it is not understood.
-pub fn asked<R: System>(rt: &R, seen: Seen) -> Verb {
-    let places = seen.places;
+// What the command asks for; nothing where it is not understood.
+pub fn asked<R: System>(rt: &R, seen: Seen) -> Option<Verb> {
     let mut buf = io::buffer();
-    let n = argument(rt, places[1], &mut buf);
-    by_words(rt, &buf[..n], seen.words, places)
-}
-
-pub fn adds(v: Verb) -> bool {
-    match v {
-        Verb::Add(_) => true,
-        Verb::Withdraw(_) => false,
-        Verb::Get(_) => false,
-        Verb::Newest => false,
-        Verb::List => false,
-        Verb::Unknown => false,
-    }
+    let n = argument(rt, seen.places[1]?, &mut buf);
+    by_name(rt, &buf[..n], seen.words, seen.places)
 }

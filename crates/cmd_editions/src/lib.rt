@@ -3,7 +3,7 @@
 
 use command::Verb;
 use console::output::{Out, flush, put, put_line};
-use console::status::Status;
+use console::status::{Status, worse};
 use files::command::argument;
 use files::message::say;
 use files::system::{Sink, System};
@@ -36,7 +36,7 @@ fn ended(to: &Sink, out: Out, lines: &[u8], status: Status) -> Status {
     if now.failed {
         fail(b"editions", b"standard output", to.error());
     }
-    console::status::worse(now.failed, status)
+    worse(now.failed, status)
 }
 
 fn print(to: &Sink, line: Line, status: Status) -> Status {
@@ -50,10 +50,10 @@ fn replaced<R: System>(rt: &R, path: &[u8], bytes: &[u8]) -> bool {
     let mut place = io::buffer();
     let mut beside = io::buffer();
     let mut waiting = io::buffer();
-    let t = shell::target::begin(rt, b"editions", path, &mut place, &mut beside);
-    let Some(to) = &t.sink else {
+    let Some(t) = shell::target::begin(rt, b"editions", path, &mut place, &mut beside) else {
         return false;
     };
+    let to = &t.sink;
     let given = put(to, Out::to(false), &mut waiting, bytes);
     let out = flush(to, given, &waiting);
     if out.failed {
@@ -137,7 +137,6 @@ fn done<R: System>(
         Verb::Get(n) => given(to, tool_editions::get(buf, used, n), traces),
         Verb::Newest => given(to, tool_editions::newest(buf, used), traces),
         Verb::List => list_first(to, buf, used),
-        Verb::Unknown => usage(),
     }
 }
 
@@ -145,24 +144,22 @@ fn asked<R: System>(rt: &R, verb: Verb, traces: bool, place: usize) -> Status {
     let mut path = io::buffer();
     let n = argument(rt, place, &mut path);
     let mut buf = [0u8; 1024];
-    let l = file::load(rt, &path[..n], command::adds(verb), &mut buf);
-    if !l.read {
-        return Status::Failed;
+    match file::load(rt, &path[..n], matches!(verb, Verb::Add(_)), &mut buf) {
+        Some(used) => done(rt, verb, traces, &path[..n], &mut buf, used),
+        None => Status::Failed,
     }
-    done(rt, verb, traces, &path[..n], &mut buf, l.used)
 }
 
-fn by_verb<R: System>(rt: &R, seen: Seen) -> Status {
-    let verb = command::asked(rt, seen);
-    if let Verb::Unknown = verb {
-        return usage();
+fn by_words<R: System>(rt: &R, seen: Seen) -> Status {
+    match (command::asked(rt, seen), seen.places[0]) {
+        (Some(verb), Some(place)) => asked(rt, verb, seen.flags[0].is_some(), place),
+        _ => usage(),
     }
-    asked(rt, verb, seen.flags[0] != 0, seen.places[0])
 }
 
 // The command, whose words begin at an argument.
 pub fn run<R: System>(rt: &R, from: usize) -> Status {
-    let g = shell::line::read_line(
+    let read = shell::line::read_line(
         rt,
         from,
         b"editions",
@@ -194,8 +191,8 @@ A file that is not there is made by add.
 Exit status: 0 done; 1 refused; 2 not understood, or the file can't be read or written.
 ",
     );
-    if !g.go {
-        return console::status::worse(g.wrong, Status::Done);
+    match read {
+        Ok(seen) => by_words(rt, seen),
+        Err(why) => Status::from(why),
     }
-    by_verb(rt, g.seen)
 }

@@ -67,14 +67,10 @@ pub fn refused_line(refusal: u8, adding: bool) -> Line {
 pub fn writes(e: Edition) -> [u8; 32]
     ensures { result ≡ writes_of e }
 {
-    let a = (e.sccr0 / 256 % 256) as u8;
-    let b = (e.sccr0 % 256) as u8;
-    let c = (e.sccr1 / 256 % 256) as u8;
-    let d = (e.sccr1 % 256) as u8;
-    let f = (e.spcr0 / 256 % 256) as u8;
-    let g = (e.spcr0 % 256) as u8;
-    let h = (e.spcr1 / 256 % 256) as u8;
-    let i = (e.spcr1 % 256) as u8;
+    let [a, b] = e.sccr0.to_be_bytes();
+    let [c, d] = e.sccr1.to_be_bytes();
+    let [f, g] = e.spcr0.to_be_bytes();
+    let [h, i] = e.spcr1.to_be_bytes();
     [
         0x04, 0x82, 0, 0x08, 0, 0, a, b, 0x04, 0x82, 0, 0x0A, 0, 0, c, d, 0x04, 0x82, 0, 0x18, 0,
         0, f, g, 0x04, 0x82, 0, 0x1A, 0, 0, h, i,
@@ -91,28 +87,18 @@ fn show(to: &Sink, out: Out, lines: &mut [u8], file: &[u8], r: Record) -> Out {
     }
 }
 
-// A place so many bytes on, or the largest number.
-fn after(at: usize, n: usize) -> usize {
-    if n <= usize::MAX - at {
-        return at + n;
-    }
-    usize::MAX
-}
-
 // A line for each edition that was added: a file has up to 64 records.
 pub fn list(to: &Sink, out: Out, lines: &mut [u8], buf: &[u8]) -> Out {
     let mut given = out;
     let mut at: usize = 0;
-    let mut turns: u8 = 0;
-    while turns < 64 {
+    for _ in 0..64 {
         let from = within(at, buf);
         let p = tool_editions::records::parse(&buf[from..]);
         let Parsed::Whole(r) = p else {
             return given;
         };
         given = show(to, given, lines, buf, r);
-        at = after(from, tool_editions::records::size(r));
-        turns += 1;
+        at = from.saturating_add(tool_editions::records::size(r));
     }
     given
 }

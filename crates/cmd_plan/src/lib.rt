@@ -5,13 +5,14 @@ ghost use Rattle.std.specs.Prelude.{◌≤◌};
 
 use console::message::say_line;
 use console::output::{Out, flush};
-use console::status::Status;
+use console::status::{Status, worse};
 use files::message::say;
 use files::system::{Sink, System, failure};
-use read::Reading;
+use points::Unread;
+use read::Misread;
 use shell::message::fail;
 use text::line::Line;
-use tool_plan::Planned;
+use tool_plan::{Planned, SetPoints};
 use wanted::Wanted;
 
 mod points;
@@ -19,15 +20,14 @@ mod read;
 mod show;
 mod wanted;
 
-fn say_fault(r: Reading) -> Status {
+fn say_misread(m: Misread) {
     let place = Line::empty()
         .write(b"line ")
-        .decimal(20, r.fault_line)
+        .decimal(20, m.line)
         .write(b", column ")
-        .decimal(20, r.fault_column)
+        .decimal(20, m.column)
         .write(b": ");
-    say_line(b"plan", show::with_fault(place, r.fault));
-    Status::Failed
+    say_line(b"plan", show::with_fault(place, m.fault));
 }
 
 fn chosen(b: bool, weight: u16) -> u16
@@ -37,8 +37,7 @@ fn chosen(b: bool, weight: u16) -> u16
 }
 
 // The proposal with what the converter asks.
-fn changed(w: Wanted, r: Reading, window: u64) -> Planned {
-    let points = r.points;
+fn changed(w: Wanted, points: SetPoints, window: u64) -> Planned {
     let planned = tool_plan::quickest::plan(points, window);
     if planned.refusal != 0 {
         return planned;
@@ -52,8 +51,8 @@ fn changed(w: Wanted, r: Reading, window: u64) -> Planned {
 }
 
 // Why there is no plan: with no end to the window there would be one, or there is none at all.
-fn refuse(w: Wanted, r: Reading) -> Status {
-    let planned = changed(w, r, u64::MAX);
+fn refuse(w: Wanted, points: SetPoints) -> Status {
+    let planned = changed(w, points, u64::MAX);
     let plan = planned.plan;
     if planned.refusal == 0 {
         let line = Line::empty()
@@ -63,7 +62,6 @@ fn refuse(w: Wanted, r: Reading) -> Status {
         say_line(b"plan", line);
         return Status::Found;
     }
-    let points = r.points;
     if points.count == 0 {
         say(b"plan", b"refusal 11, no plan: there is no set-point\n");
         return Status::Found;
@@ -76,10 +74,9 @@ fn refuse(w: Wanted, r: Reading) -> Status {
 }
 
 // The plan on an output, as text or as a trace.
-fn put(w: Wanted, r: Reading, planned: Planned, to: &Sink) -> Out {
+fn put(w: Wanted, points: SetPoints, planned: Planned, to: &Sink) -> Out {
     let mut buf = io::large_buffer();
     let plan = planned.plan;
-    let points = r.points;
     let out = Out::to(false);
     if w.trace {
         let given = show::trace(to, out, &mut buf, plan);
@@ -90,36 +87,44 @@ fn put(w: Wanted, r: Reading, planned: Planned, to: &Sink) -> Out {
 }
 
 // Into what a path names.
-fn write_to<R: System>(rt: &R, w: Wanted, r: Reading, planned: Planned, path: &[u8]) -> Status {
+fn write_to<R: System>(
+    rt: &R,
+    w: Wanted,
+    points: SetPoints,
+    planned: Planned,
+    path: &[u8],
+) -> Status {
     let mut place = io::buffer();
     let mut beside = io::buffer();
-    let t = shell::target::begin(rt, b"plan", path, &mut place, &mut beside);
-    let Some(to) = &t.sink else {
+    let Some(t) = shell::target::begin(rt, b"plan", path, &mut place, &mut beside) else {
         return Status::Failed;
     };
-    let out = put(w, r, planned, to);
+    let out = put(w, points, planned, &t.sink);
     if out.failed {
-        fail(b"plan", path, to.error());
+        fail(b"plan", path, t.sink.error());
     }
-    let whole = !out.failed;
-    console::status::worse(
-        !shell::target::finish(rt, b"plan", t, &place, &beside, whole),
-        Status::Done,
-    )
+    let replaced = shell::target::finish(rt, b"plan", t, &place, &beside, !out.failed);
+    worse(!replaced, Status::Done)
 }
 
-fn write_at<R: System>(rt: &R, w: Wanted, r: Reading, planned: Planned, output: usize) -> Status {
-    if output == 0 {
+fn write_at<R: System>(
+    rt: &R,
+    w: Wanted,
+    points: SetPoints,
+    planned: Planned,
+    output: Option<usize>,
+) -> Status {
+    let Some(at) = output else {
         let to = Sink::output(rt);
-        let out = put(w, r, planned, &to);
+        let out = put(w, points, planned, &to);
         if out.failed {
             fail(b"plan", b"standard output", to.error());
         }
-        return console::status::worse(out.failed, Status::Done);
-    }
+        return worse(out.failed, Status::Done);
+    };
     let mut path = io::buffer();
-    match rt.arg(output, &mut path) {
-        Ok(n) => write_to(rt, w, r, planned, &path[..n]),
+    match rt.arg(at, &mut path) {
+        Ok(n) => write_to(rt, w, points, planned, &path[..n]),
         Err(e) => {
             fail(b"plan", b"a file's name", failure(e));
             Status::Failed
@@ -127,43 +132,35 @@ fn write_at<R: System>(rt: &R, w: Wanted, r: Reading, planned: Planned, output: 
     }
 }
 
-fn answer<R: System>(rt: &R, w: Wanted, r: Reading, output: usize) -> Status {
-    let planned = changed(w, r, w.window);
+fn answer<R: System>(rt: &R, w: Wanted, points: SetPoints, output: Option<usize>) -> Status {
+    let planned = changed(w, points, w.window);
     if planned.refusal != 0 {
-        return refuse(w, r);
+        return refuse(w, points);
     }
-    write_at(rt, w, r, planned, output)
+    write_at(rt, w, points, planned, output)
 }
 
-fn asked<R: System>(rt: &R, w: Wanted, input: usize, output: usize) -> Status {
+fn asked<R: System>(rt: &R, w: Wanted, input: Option<usize>, output: Option<usize>) -> Status {
     let mut name = io::buffer();
-    let i = shell::input::open_at(rt, b"plan", input, &mut name);
-    let n = i.name;
-    let Some(from) = i.from else {
+    let Some(i) = shell::input::open_at(rt, b"plan", input, &mut name) else {
         return Status::Failed;
     };
-    let t = points::read(rt, &from);
-    if t.failed {
-        fail(b"plan", &name[..n], from.error());
-        return Status::Failed;
-    }
-    if !t.ended {
-        say(b"plan", b"input too long\n");
-        return Status::Failed;
-    }
+    let read = points::read(rt, &i.from);
+    let n = i.name;
     // It is closed before an output is opened, which may be the same FIFO.
-    drop(from);
-    let reading = t.reading;
-    let r = reading.finished();
-    if r.fault != 0 {
-        return say_fault(r);
+    drop(i);
+    match read {
+        Ok(points) => return answer(rt, w, points, output),
+        Err(Unread::Failed(e)) => fail(b"plan", &name[..n], e),
+        Err(Unread::Long) => say(b"plan", b"input too long\n"),
+        Err(Unread::Misread(m)) => say_misread(m),
     }
-    answer(rt, w, r, output)
+    Status::Failed
 }
 
 // The command, whose words begin at an argument.
 pub fn run<R: System>(rt: &R, from: usize) -> Status {
-    let g = shell::line::read_line(
+    let read = shell::line::read_line(
         rt,
         from,
         b"plan",
@@ -188,13 +185,12 @@ Refused (11): no set-point, counts of bits other than 8 that differ, a window to
 Exit status: 0 there is a plan; 1 there is none; 2 the set-points can't be read or are not understood, or the plan can't be written.
 ",
     );
-    if !g.go {
-        return console::status::worse(g.wrong, Status::Done);
-    }
-    let seen = g.seen;
-    let w = wanted::asked_of(rt, seen);
-    if !w.good {
+    let seen = match read {
+        Ok(seen) => seen,
+        Err(why) => return Status::from(why),
+    };
+    let Some(w) = wanted::asked_of(rt, seen) else {
         return Status::Failed;
-    }
+    };
     asked(rt, w, seen.places[1], seen.values[2])
 }

@@ -1,59 +1,30 @@
 // The set-points read to the end of their text.
-use crate::read::Reading;
+use crate::read::{Misread, Reading};
 use files::origin::Origin;
 use files::pieces::fill;
 use files::system::System;
+use std::io::Error;
+use tool_plan::SetPoints;
 
-// The reading, whether the text has ended, and whether it could not be read.
-#[derive(Clone, Copy)]
-pub struct Points {
-    pub reading: Reading,
-    pub ended: bool,
-    pub failed: bool,
+// Why there are none: the text can't be read, it is too long, or it is not understood.
+#[derive(Drop)]
+pub enum Unread {
+    Failed(Error),
+    Long,
+    Misread(Misread),
 }
 
-fn taken(r: Reading, part: &[u8]) -> Reading {
-    let mut now = r;
-    for b in part {
-        now = now.step(*b);
-    }
-    now
-}
-
-// A piece more of the text.
-fn piece<R: System>(rt: &R, r: Reading, from: &Origin, buf: &mut [u8]) -> Points {
-    let f = fill(rt, from, buf, 0, false);
-    let n = f.total;
-    if f.ended {
-        return Points {
-            reading: r,
-            ended: true,
-            failed: f.failed,
-        };
-    }
-    let reading = taken(r, &buf[..n]);
-    Points {
-        reading,
-        ended: false,
-        failed: false,
-    }
-}
-
-pub fn read<R: System>(rt: &R, from: &Origin) -> Points {
+// All of the text is read, also behind what is not understood.
+pub fn read<R: System>(rt: &R, from: &Origin) -> Result<SetPoints, Unread> {
     let mut buf = io::large_buffer();
-    let mut now = Points {
-        reading: Reading::new(),
-        ended: false,
-        failed: false,
-    };
-    let mut turns: u32 = 0;
-    while turns < 65536 {
-        let r = now.reading;
-        now = piece(rt, r, from, &mut buf);
-        if now.ended {
-            return now;
+    let mut reading = Ok(Reading::new());
+    for _ in 0..65536 {
+        let f = fill(rt, from, &mut buf, 0, false).map_err(Unread::Failed)?;
+        if f.ended {
+            return reading.and_then(|r| r.finished()).map_err(Unread::Misread);
         }
-        turns += 1;
+        let part = &buf[..f.total];
+        reading = reading.and_then(|r| r.taken(part));
     }
-    now
+    Err(Unread::Long)
 }

@@ -1,15 +1,10 @@
 // A plan as people read it, and as a trace.
-ghost use Rattle.std.specs.Prelude.{◌≤◌};
-
+use crate::read::Fault;
 use console::output::{Out, put, put_line};
 use files::system::Sink;
 use text::line::Line;
 use tool_plan::load::HostWrite;
 use tool_plan::{Plan, SetPoints};
-
-fn minus(a: u64, b: u64) -> u64 {
-    if b < a { a - b } else { 0 }
-}
 
 // SPCR2 as loading writes it.
 fn spcr2(plan: Plan) -> u16 {
@@ -24,7 +19,7 @@ fn head_line(plan: Plan, window: u64) -> Line {
         .write(b", window ")
         .decimal(20, window)
         .write(b", slack ")
-        .decimal(20, minus(window, plan.clock))
+        .decimal(20, window.saturating_sub(plan.clock))
         .write(b"\n")
 }
 
@@ -58,34 +53,17 @@ fn entry_line(at: u64, select: u8, bits: u8, word: u16, command: u8) -> Line {
         .write(b"\n")
 }
 
-// A count of entries, within the arrays.
-fn few(count: u8) -> usize
-    ensures { result ≤ 16 }
-{
-    if count < 16 { count as usize } else { 16 }
-}
-
-// An entry of the plan, by its number below 16.
-fn put_entry(to: &Sink, out: Out, buf: &mut [u8], points: SetPoints, plan: Plan, k: usize) -> Out {
-    let i = k % 16;
-    let at = (plan.first as u64 + i as u64) % 16;
-    let line = entry_line(
-        at,
-        points.selects[i],
-        points.bits[i],
-        plan.words[i],
-        plan.commands[i],
-    );
-    put_line(to, out, buf, line)
-}
-
 fn put_entries(to: &Sink, out: Out, buf: &mut [u8], points: SetPoints, plan: Plan) -> Out {
-    let n = few(plan.count);
     let mut given = out;
-    let mut k: usize = 0;
-    while k < n {
-        given = put_entry(to, given, buf, points, plan, k);
-        k += 1;
+    for k in 0..16.min(plan.count as usize) {
+        let line = entry_line(
+            (plan.first as u64 + k as u64) % 16,
+            points.selects[k],
+            points.bits[k],
+            plan.words[k],
+            plan.commands[k],
+        );
+        given = put_line(to, given, buf, line);
     }
     given
 }
@@ -104,28 +82,17 @@ pub fn show(
     put_entries(to, given, buf, points, plan)
 }
 
-fn low(n: u32) -> u8 {
-    (n % 256) as u8
-}
-
 fn put_write(to: &Sink, out: Out, buf: &mut [u8], w: HostWrite) -> Out {
-    let offset = w.offset as u32;
-    let record = [
-        4u8,
-        128 + w.width % 8,
-        low(offset / 256),
-        low(offset),
-        low(w.value / 16777216),
-        low(w.value / 65536),
-        low(w.value / 256),
-        low(w.value),
-    ];
+    let [high, low] = w.offset.to_be_bytes();
+    let [a, b, c, d] = w.value.to_be_bytes();
+    let record = [4, 128 + w.width % 8, high, low, a, b, c, d];
     put(to, out, buf, &record)
 }
 
 // Pins at 0, RXD at one.
-fn put_hold(to: &Sink, out: Out, buf: &mut [u8], clocks: u32) -> Out {
-    let record = [2u8, 0, 1, low(clocks / 256), low(clocks)];
+fn put_hold(to: &Sink, out: Out, buf: &mut [u8], clocks: u16) -> Out {
+    let [high, low] = clocks.to_be_bytes();
+    let record = [2, 0, 1, high, low];
     put(to, out, buf, &record)
 }
 
@@ -136,18 +103,14 @@ fn run_for(to: &Sink, out: Out, buf: &mut [u8], clocks: u64) -> Out {
         given = put_hold(to, given, buf, 65535);
         left -= 65535;
     }
-    put_hold(to, given, buf, (left % 65536) as u32)
+    put_hold(to, given, buf, left as u16)
 }
 
 // The writes that load a plan.
 fn put_load(to: &Sink, out: Out, buf: &mut [u8], plan: Plan) -> Out {
-    let n = tool_plan::load::writes(plan);
     let mut given = out;
-    let mut i: u16 = 0;
-    while i < n {
-        let w = tool_plan::load::write(plan, i);
-        given = put_write(to, given, buf, w);
-        i += 1;
+    for i in 0..tool_plan::load::writes(plan) {
+        given = put_write(to, given, buf, tool_plan::load::write(plan, i));
     }
     given
 }
@@ -166,15 +129,15 @@ pub fn trace(to: &Sink, out: Out, buf: &mut [u8], plan: Plan) -> Out {
 }
 
 // A line with what is wrong with a line of the set-points.
-pub fn with_fault(line: Line, fault: u8) -> Line {
+pub fn with_fault(line: Line, fault: Fault) -> Line {
     match fault {
-        1 => line.write(b"no number\n"),
-        2 => line.write(b"a number above 65535\n"),
-        3 => line.write(b"more than three words\n"),
-        4 => line.write(b"fewer than three words\n"),
-        6 => line.write(b"a chip select above 15\n"),
-        7 => line.write(b"bits not from 8 to 16\n"),
-        8 => line.write(b"a word too big for its bits\n"),
-        _ => line.write(b"more than 16 set-points\n"),
+        Fault::NoNumber => line.write(b"no number\n"),
+        Fault::LargeNumber => line.write(b"a number above 65535\n"),
+        Fault::ManyWords => line.write(b"more than three words\n"),
+        Fault::FewWords => line.write(b"fewer than three words\n"),
+        Fault::Select => line.write(b"a chip select above 15\n"),
+        Fault::Bits => line.write(b"bits not from 8 to 16\n"),
+        Fault::Word => line.write(b"a word too big for its bits\n"),
+        Fault::ManyPoints => line.write(b"more than 16 set-points\n"),
     }
 }

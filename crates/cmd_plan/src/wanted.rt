@@ -5,10 +5,9 @@ use shell::arguments::Seen;
 use shell::message::say_of;
 use text::number::{Number, parse_number};
 
-// CPOL, CPHA, the least SPBR and DSCKL, a trace; the window. Where a number is not understood, which is said, it is not good.
+// CPOL, CPHA, the least SPBR and DSCKL, a trace; the window.
 #[derive(Clone, Copy)]
 pub struct Wanted {
-    pub good: bool,
     pub cpol: bool,
     pub cpha: bool,
     pub trace: bool,
@@ -17,69 +16,39 @@ pub struct Wanted {
     pub window: u64,
 }
 
-// A number from the least to the most, or one that is none.
-fn within(word: &[u8], low: u64, high: u64) -> Number {
-    let number = parse_number(word);
-    match number {
-        Number::Is(n) => {
-            if n < low {
-                return Number::NoNumber;
-            }
-            if n > high {
-                return Number::NoNumber;
-            }
-            Number::Is(n)
-        }
-        Number::NoNumber => Number::NoNumber,
-    }
+// A number from the least to the most.
+fn within(word: &[u8], low: u64, high: u64) -> Option<u64> {
+    let Number::Is(n) = parse_number(word) else {
+        return None;
+    };
+    if low <= n && n <= high { Some(n) } else { None }
 }
 
 // The number that the argument at a place is; `other` where there is no such argument. What is no such number is said.
-fn number<R: System>(rt: &R, place: usize, low: u64, high: u64, other: u64) -> Number {
-    if place == 0 {
-        return Number::Is(other);
-    }
+fn number<R: System>(rt: &R, place: Option<usize>, low: u64, high: u64, other: u64) -> Option<u64> {
+    let Some(at) = place else {
+        return Some(other);
+    };
     let mut word = io::buffer();
-    let n = argument(rt, place, &mut word);
+    let n = argument(rt, at, &mut word);
     let found = within(&word[..n], low, high);
-    if let Number::NoNumber = found {
+    if found.is_none() {
         say_of(b"plan", b"not understood: ", &word[..n]);
     }
     found
 }
 
-fn not_good() -> Wanted {
-    Wanted {
-        good: false,
-        cpol: false,
-        cpha: false,
-        trace: false,
-        spbr: 0,
-        dsckl: 0,
-        window: 0,
-    }
-}
-
-pub fn asked_of<R: System>(rt: &R, seen: Seen) -> Wanted {
-    let flags = seen.flags;
-    let values = seen.values;
-    let places = seen.places;
-    let Number::Is(window) = number(rt, places[0], 0, u64::MAX, 0) else {
-        return not_good();
-    };
-    let Number::Is(spbr) = number(rt, values[0], 2, 255, 2) else {
-        return not_good();
-    };
-    let Number::Is(dsckl) = number(rt, values[1], 1, 127, 1) else {
-        return not_good();
-    };
-    Wanted {
-        good: true,
-        cpol: flags[0] != 0,
-        cpha: flags[1] != 0,
-        trace: flags[2] != 0,
+// What the command's words ask for. Where a number is not understood, which is said, there is none.
+pub fn asked_of<R: System>(rt: &R, seen: Seen) -> Option<Wanted> {
+    let window = number(rt, seen.places[0], 0, u64::MAX, 0)?;
+    let spbr = number(rt, seen.values[0], 2, 255, 2)?;
+    let dsckl = number(rt, seen.values[1], 1, 127, 1)?;
+    Some(Wanted {
+        cpol: seen.flags[0].is_some(),
+        cpha: seen.flags[1].is_some(),
+        trace: seen.flags[2].is_some(),
         spbr,
         dsckl,
         window,
-    }
+    })
 }

@@ -1,28 +1,21 @@
 // The commands behind one name: `qsm show FILE`, or `qsm-show FILE` by a link, each with its exit status.
 #![tactic(auto)]
 
-use console::status::{Status, number};
-use files::command::argument;
-use files::system::{Sink, System};
-use files::words::same;
+use console::status::Status;
+use files::command::{argument, print_help, print_version};
+use files::message::{ERROR, say};
+use files::system::System;
 use shell::message::say_of;
+use shell::target::folder;
 use std::env::FillError;
 
-mod named;
-
-fn usage(to: &Sink) -> bool {
-    to.write_all(
-        b"\
+const USAGE: &[u8] = b"\
 usage: qsm COMMAND [ARGUMENTS]
        qsm COMMAND --help
        qsm help | qsm version
-",
-    )
-}
+";
 
-fn commands(to: &Sink) -> bool {
-    to.write_all(
-        b"
+const COMMANDS: &[u8] = b"
 Commands:
   replay    play a trace and write its log
   lines     replay what came on RXD and print the lines that polls deliver
@@ -35,49 +28,28 @@ Commands:
   find      find a record of a trace by its index
 
 Exit status: 0 done and nothing found, 1 done and something found, 2 could not be done.
-",
-    )
-}
+";
 
-fn help<R: System>(rt: &R) -> Status {
-    let output = Sink::output(rt);
-    if usage(&output) {
-        if commands(&output) {
-            return Status::Done;
+// The command of a name, whose words begin at an argument, or what qsm says of itself.
+fn start<R: System>(rt: &R, name: &[u8], from: usize) -> Status {
+    match name {
+        b"replay" => cmd_replay::run(rt, from),
+        b"lines" => cmd_lines::run(rt, from),
+        b"show" => cmd_show::run(rt, from),
+        b"wave" => cmd_wave::run(rt, from),
+        b"compare" => cmd_compare::run(rt, from),
+        b"plan" => cmd_plan::run(rt, from),
+        b"editions" => cmd_editions::run(rt, from),
+        b"index" => cmd_index::run(rt, from),
+        b"find" => cmd_find::run(rt, from),
+        b"help" | b"--help" | b"-h" => Status::from(print_help(rt, b"qsm", USAGE, COMMANDS)),
+        b"version" | b"--version" => Status::from(print_version(rt, b"qsm")),
+        _ => {
+            say_of(b"qsm", b"unknown command ", name);
+            io::write_all(ERROR, USAGE);
+            Status::Failed
         }
     }
-    files::message::fail(b"qsm", b"standard output", output.error());
-    Status::Failed
-}
-
-fn version<R: System>(rt: &R) -> Status {
-    console::status::worse(files::version::print_version(rt, b"qsm"), Status::Done)
-}
-
-fn unknown<R: System>(rt: &R, name: &[u8]) -> Status {
-    say_of(b"qsm", b"unknown command ", name);
-    usage(&Sink::error_output(rt));
-    Status::Failed
-}
-
-// What qsm says of itself.
-fn own<R: System>(rt: &R, name: &[u8]) -> Status {
-    if named::is_help(name) {
-        return help(rt);
-    }
-    if named::is_version(name) {
-        return version(rt);
-    }
-    unknown(rt, name)
-}
-
-// The command of a name, whose words begin at an argument.
-fn start<R: System>(rt: &R, name: &[u8], from: usize) -> Status {
-    let ran = named::run(rt, name, from);
-    if ran.known {
-        return ran.status;
-    }
-    own(rt, name)
 }
 
 // The command that argument 1 names; one that is too long is none that is known.
@@ -87,8 +59,8 @@ fn by_word<R: System>(rt: &R) -> Status {
         Ok(n) => start(rt, &word[..n], 2),
         Err(FillError::TooLong) => start(rt, b"", 2),
         Err(FillError::NotPresent) => {
-            files::message::say(b"qsm", b"too few arguments\n");
-            usage(&Sink::error_output(rt));
+            say(b"qsm", b"too few arguments\n");
+            io::write_all(ERROR, USAGE);
             Status::Failed
         }
     }
@@ -96,15 +68,10 @@ fn by_word<R: System>(rt: &R) -> Status {
 
 // The command that a path's last word tells behind `qsm-`, or else argument 1.
 fn by_name<R: System>(rt: &R, path: &[u8]) -> Status {
-    let at = shell::target::folder(path);
-    if path.len() - at < 4 {
-        return by_word(rt);
+    match path[folder(path)..].strip_prefix(b"qsm-") {
+        Some(name) => start(rt, name, 1),
+        None => by_word(rt),
     }
-    let behind = at + 4;
-    if same(&path[at..behind], b"qsm-") {
-        return start(rt, &path[behind..], 1);
-    }
-    by_word(rt)
 }
 
 // What it was called by, which may be a link.
@@ -116,5 +83,5 @@ fn by_link<R: System>(rt: &R) -> Status {
 
 // What the program's main calls: the command that its arguments ask for, and its exit status.
 pub fn qsm_command<R: System>(rt: &R) -> i32 {
-    number(by_link(rt))
+    i32::from(by_link(rt))
 }
