@@ -66,7 +66,7 @@ fn play<R: System>(rt: &R, wanted: Wanted, from: &Origin, name: &[u8]) -> Status
 fn at_most(k: u64) -> u32
     ensures { result ≡ min k 65536 }
 {
-    if k < 65536 { k as u32 } else { 65536 }
+    k.min(65536) as u32
 }
 
 // The trace that the second word of the command names.
