@@ -1,3 +1,4 @@
 pub mod Giving
+pub mod Lines
 pub mod Reading
 pub mod Stopping
