@@ -15,23 +15,8 @@ use Rattle.text.specs.declared.log.Logged.{Logged}
 use Rattle.console.specs.Output.{Gives}
 use Rattle.console.specs.declared.output.Out.{Out}
 use Rattle.console.proofs.Giving.{both}
+use Rattle.console.proofs.Lines.{nothing}
 use Rattle.cmd_compare.specs.Lines.{field_line, answer_lines, first_half, second_half, pair_lines, list_lines}
-
-pub nothing : (o : Out) (buf : List ℕ) → Gives o buf [] o buf
-nothing o buf =
-    record {
-      handed = [];
-      lost = [];
-      order = refl;
-      kept = λ _. refl;
-      stopped = λ _. (refl, (refl, refl));
-      same = refl;
-      room = refl;
-    }
-
--- A line is its text.
-pub whole : {l : Line} {t : List ℕ} → Shows l t → take l.length l.bytes ≡ t
-whole {l = l} {t = t} s = rw s.line (take_at t _ (length t) refl)
 
 regroup : (a b c d : List ℕ) → ((a ++ b) ++ c) ++ d ≡ a ++ (b ++ (c ++ (d ++ [])))
 regroup a b c d = simp (append_assoc, append-nil)
@@ -58,22 +43,6 @@ halves n sum x y o buf o₁ buf₁ o₂ buf₂ g h =
     subst (λ (t : List ℕ). Gives o buf t o₂ buf₂) (lines_append n sum x y first_half second_half)
     (both o buf (answer_lines n sum x y first_half) o₁ buf₁ (answer_lines n sum x y second_half) o₂ buf₂ g h)
 
-never : {A : Type 0} (b : Bool) → b ≡ true → b ≡ false → A
-never b bad good = let z : ◌≡◌ {A = ℕ} 0 1 = cc in absurd (omega arith)
-
-pub div_one : (n : ℕ) → n / 1 ≡ n
-div_one n = omega arith
-
--- A line that is given where a test holds, and none where it does not.
-pub given_if : (b : Bool) (l : Line) (t : List ℕ) (o : Out) (buf : List ℕ) (o' : Out) (buf' : List ℕ) → b ≡ true → Shows l t
-    → Gives o buf (take l.length l.bytes) o' buf' → Gives o buf (cond b t []) o' buf'
-given_if true l t o buf o' buf' is s g = subst (λ (x : List ℕ). Gives o buf x o' buf') (whole s) g
-given_if false l t o buf o' buf' is s g = never false is refl
-
-pub given_not : (b : Bool) (t : List ℕ) (o : Out) (buf : List ℕ) → b ≡ false → Gives o buf (cond b t []) o buf
-given_not false t o buf is = nothing o buf
-given_not true t o buf is = never true refl is
-
 pub none_shown : Shows empty []
 none_shown = record { line = refl; fits = omega arith }
 
@@ -88,8 +57,3 @@ module _ (kind first : ℕ) (a b list : List ℕ) where
       → Gives o buf (list_lines kind first a b list (i + 1)) o₂ buf₂
   unfolding list_lines
   goes o buf o₁ buf₁ o₂ buf₂ i g h = rw (add-one i) (both o buf (list_lines kind first a b list i) o₁ buf₁ _ o₂ buf₂ g h)
-
-  pub ends : (o : Out) (buf : List ℕ) (o₁ : Out) (buf₁ : List ℕ) (i n m : ℕ) → i ≤ n → n ≡ m → n ≤ i → Gives o buf (list_lines kind first a b list i) o₁ buf₁
-      → Gives o buf (list_lines kind first a b list m) o₁ buf₁
-  ends o buf o₁ buf₁ i n m le is ge g =
-      let same : i ≡ m = omega arith in subst (λ (k : ℕ). Gives o buf (list_lines kind first a b list k) o₁ buf₁) same g

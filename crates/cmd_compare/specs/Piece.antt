@@ -7,6 +7,8 @@ use Rattle.tool_compare.specs.Kind.{kind_of, begun, first_other, mixed}
 use Rattle.tool_compare.specs.declared.Compared.{Compared}
 use Rattle.cmd_compare.specs.Tally.{tallied, answers_in}
 use Rattle.cmd_compare.specs.declared.tally.Tally.{Tally}
+use Rattle.cmd_compare.specs.declared.piece.Log.{Log}
+use Rattle.cmd_compare.specs.declared.piece.Log.TheVariants.{First, Second}
 use Rattle.cmd_compare.specs.declared.piece.Other.{Other}
 use Rattle.cmd_compare.specs.declared.piece.Pieced.{Pieced}
 use Rattle.cmd_compare.specs.declared.piece.End.{End}
@@ -20,20 +22,24 @@ kind_with before a b = cond (eqb before 0) (kind_of a b) before
 abbrev pub other_in : ℕ → List ℕ → ℕ
 other_in kind log = first_other kind log (begun (stride_of kind) log)
 
+-- A is hex 41, B is 42.
+abbrev pub letter_of : Log → ℕ
+letter_of First = 0x41
+letter_of Second = 0x42
+
 -- It stands behind so many bytes of its log.
-unfoldable pub named : ℕ → ℕ → ℕ → List ℕ → Other
-named letter kind before log =
+unfoldable pub named : Log → ℕ → ℕ → List ℕ → Other
+named which kind before log =
     record {
-      letter = letter;
+      log = which;
       answer = counted (answers_in kind before) (other_in kind log);
       place = counted before (other_in kind log * stride_of kind);
       byte = get_or log (other_in kind log * stride_of kind) 0;
       kind = kind;
     }
 
--- A is hex 41, B is 42.
 unfoldable pub first_or_second : ℕ → Tally → List ℕ → List ℕ → Other
-first_or_second kind t a b = cond (mixed kind a) (named 0x41 kind t.first a) (named 0x42 kind t.second b)
+first_or_second kind t a b = cond (mixed kind a) (named First kind t.first a) (named Second kind t.second b)
 
 -- A log that is cut is refused at the ends of both.
 abbrev pub finished : Bool → End

@@ -4,6 +4,7 @@ use Rattle.console.specs.declared.status.Status.{Status}
 use Rattle.console.specs.declared.status.Status.TheVariants as status
 use Rattle.text.specs.Verdict.{equal_line, differ_line, refused_line, other_line}
 use Rattle.cmd_compare.specs.Tally.{answers_of, more_of, equal}
+use Rattle.cmd_compare.specs.Piece.{letter_of}
 use Rattle.cmd_compare.specs.declared.tally.Tally.{Tally}
 use Rattle.cmd_compare.specs.declared.piece.Other.{Other}
 use Rattle.cmd_compare.specs.declared.piece.End.{End}
@@ -16,14 +17,14 @@ compared_text t =
     (differ_line t.differing (answers_of t) (more_of t.kind t.first t.second) (more_of t.kind t.second t.first))
 
 abbrev pub other_text : Other → List ℕ
-other_text o = other_line o.letter o.answer o.place o.byte o.kind
+other_text o = other_line (letter_of o.log) o.answer o.place o.byte o.kind
 
 unfoldable pub verdict_text : Tally → End → List ℕ
 verdict_text t Done = compared_text t
 verdict_text t (Refused r) = refused_line r
 verdict_text t (OtherKind o) = other_text o
 verdict_text t More = []
-verdict_text t (NotRead first) = []
+verdict_text t (NotRead log) = []
 verdict_text t NotWritten = []
 
 abbrev pub compared_status : Tally → Status
@@ -35,7 +36,7 @@ is_done Done = true
 is_done (Refused r) = false
 is_done (OtherKind o) = false
 is_done More = false
-is_done (NotRead first) = false
+is_done (NotRead log) = false
 is_done NotWritten = false
 
 abbrev pub status_of : Tally → End → Status

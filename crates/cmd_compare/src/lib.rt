@@ -2,12 +2,14 @@
 // once for the verdict, once to show the differing answers.
 #![tactic(auto)]
 
+use console::command::Command;
 use console::output::{Out, flush, put_line};
 use console::status::{Status, worse};
+use files::command::Command as Given;
 use files::message::{fail, say};
 use files::origin::Origin;
 use files::system::{Sink, System};
-use piece::End;
+use piece::{End, Log};
 use stream::pass;
 use verdict::{status_of, status_shown, to_show, verdict_line};
 
@@ -22,13 +24,8 @@ mod verdict;
 // What a pass could not do.
 fn say_end(end: End, a: &Origin, b: &Origin) {
     match end {
-        End::NotRead(first) => {
-            if first {
-                fail(b"compare", b"A", a.error());
-            } else {
-                fail(b"compare", b"B", b.error());
-            }
-        }
+        End::NotRead(Log::First) => fail(b"compare", b"A", a.error()),
+        End::NotRead(Log::Second) => fail(b"compare", b"B", b.error()),
         End::More => say(b"compare", b"a log is too long\n"),
         _ => {}
     }
@@ -124,18 +121,19 @@ fn files_of<R: System>(rt: &R, from: usize) -> Status {
     opened(rt, &first.from, &second.from)
 }
 
-// The command, whose words begin at an argument.
-pub fn run<R: System>(rt: &R, from: usize) -> Status {
-    let read = files::command::read_from(
-        rt,
-        from,
-        b"compare",
-        b"",
-        b"",
-        2,
-        2,
-        b"usage: compare A B\n",
-        b"\
+// Its name, what may stand on its line, what it says of itself and what it does.
+struct CompareCommand;
+
+impl Command for CompareCommand {
+    const NAME: &'static [u8] = b"compare";
+
+    const LEAST: usize = 2;
+
+    const MOST: usize = 2;
+
+    const USAGE: &'static [u8] = b"usage: compare A B\n";
+
+    const HELP: &'static [u8] = b"\
 Compares two logs, A and B, of any length. Its first word is equal, differ or refused. Then, for each answer that differs,
 a line for each field of it that does, with its value in both logs:
 
@@ -148,10 +146,18 @@ begins with the same one (refusal 5, with the place of the first that does not),
 an answer's, 10 or 18 (refusal 6): it ends within an answer. To compare an archived log of kind 10 with one of kind 11, play its trace anew.
 
 Exit status: 0 equal, 1 differ, 2 refused or could not be done.
-",
-    );
-    match read {
-        Ok(_) => files_of(rt, from),
-        Err(why) => Status::from(why),
+";
+
+    ghost LEAST = { 2 };
+
+    ghost MOST = { 2 };
+
+    fn answer<R: System>(rt: &R, from: usize, _: Given) -> Status {
+        files_of(rt, from)
     }
+}
+
+// The command, whose words begin at an argument.
+pub fn run<R: System>(rt: &R, from: usize) -> Status {
+    console::command::run::<CompareCommand, R>(rt, from)
 }

@@ -3,31 +3,50 @@
 ghost use Rattle.std.specs.Prelude.{◌≡◌, true, ◌||◌};
 ghost use Rattle.tool_compare.specs.Kind.{mixed};
 ghost use Rattle.tool_compare.specs.Compare.{compared_as, in_numbers};
-ghost use Rattle.cmd_compare.specs.Piece.{kind_with, named, first_or_second, finished, ended, followed, pieced};
+ghost use Rattle.cmd_compare.specs.Piece.{letter_of, kind_with, named, first_or_second, finished, ended, followed, pieced};
 
 use crate::tally::{Tally, answers_in, tallied};
 use files::pieces::counted;
 use tool_compare::Compared;
 use tool_compare::kinds::{first_other, kind_of, mixed, stride_of};
 
-// An answer that does not begin with the logs' kind: which log's, A or B, its number and its place in bytes, what it begins with, and the kind.
+// One of the two logs.
+#[derive(Clone, Copy)]
+pub enum Log {
+    First,
+    Second,
+}
+
+impl From<Log> for u8 {
+    ghost from_gives = { λ log letter. letter ≡ letter_of log };
+
+    // Its letter, A or B.
+    fn from(log: Log) -> u8 {
+        match log {
+            Log::First => b'A',
+            Log::Second => b'B',
+        }
+    }
+}
+
+// An answer that does not begin with the logs' kind: which log's, its number and its place in bytes, what it begins with, and the kind.
 #[derive(Clone, Copy)]
 pub struct Other {
-    pub letter: u8,
+    pub log: Log,
     pub answer: u64,
     pub place: u64,
     pub byte: u8,
     pub kind: u8,
 }
 
-// What follows: more pieces; the end of both logs; a refusal; or a log that can't be read, the first or the second, or an output that can't be written.
+// What follows: more pieces; the end of both logs; a refusal; or a log that can't be read, or an output that can't be written.
 #[derive(Clone, Copy)]
 pub enum End {
     More,
     Done,
     Refused(u8),
     OtherKind(Other),
-    NotRead(bool),
+    NotRead(Log),
     NotWritten,
 }
 
@@ -39,14 +58,14 @@ pub struct Pieced {
 }
 
 // The first answer of a piece that does not begin with the kind, behind so many bytes of its log.
-fn named(letter: u8, kind: u8, before: u64, log: &[u8]) -> Other
+fn named(which: Log, kind: u8, before: u64, log: &[u8]) -> Other
     requires { mixed kind log.now ≡ true }
-    ensures { result ≡ named letter kind before log.now }
+    ensures { result ≡ named which kind before log.now }
 {
     let k = first_other(kind, log);
     let at = k * stride_of(kind);
     Other {
-        letter,
+        log: which,
         answer: counted(answers_in(kind, before), k),
         place: counted(before, at),
         byte: log[at],
@@ -60,9 +79,9 @@ fn first_or_second(kind: u8, t: Tally, a: &[u8], b: &[u8]) -> Other
     ensures { result ≡ first_or_second kind t a.now b.now }
 {
     if mixed(kind, a) {
-        return named(65, kind, t.first, a);
+        return named(Log::First, kind, t.first, a);
     }
-    named(66, kind, t.second, b)
+    named(Log::Second, kind, t.second, b)
 }
 
 // The kind of the logs: that of the pieces before, or of the first.

@@ -146,11 +146,9 @@ pub fn put_list(
 {
     let n = (count as usize).min(list.len() / 2);
     let mut given = out;
-    let mut i = 0;
-    while i < n {
+    for i in 0..n {
         let at = 2 * i;
         given = put_pair(to, given, buf, kind, first, a, b, list[at], list[at + 1]);
-        i += 1;
     }
     given
 }

@@ -2,7 +2,7 @@
 ghost use Rattle.std.specs.Prelude.{◌≡◌, length, IfOk};
 ghost use Rattle.io.specs.Counts.{IsPrefixLen};
 
-use crate::piece::End;
+use crate::piece::{End, Log};
 use crate::step::{Turned, step};
 use crate::tally::nothing;
 use console::output::Out;
@@ -25,13 +25,13 @@ fn fill_up<R: System>(rt: &R, from: &Origin, buf: &mut [u8]) -> std::io::Result<
     Ok(have)
 }
 
-fn not_read(t: Turned, first: bool) -> Turned {
+fn not_read(t: Turned, log: Log) -> Turned {
     let tally = t.tally;
     let out = t.out;
     Turned {
         tally,
         out,
-        end: End::NotRead(first),
+        end: End::NotRead(log),
     }
 }
 
@@ -61,10 +61,10 @@ fn turn<R: System>(
     lines: &mut [u8],
 ) -> Turned {
     let Ok(n) = fill_up(rt, first, a) else {
-        return not_read(t, true);
+        return not_read(t, Log::First);
     };
     let Ok(m) = fill_up(rt, second, b) else {
-        return not_read(t, false);
+        return not_read(t, Log::Second);
     };
     let mut list = numbers();
     step(shows, to, t, &a[..n], &b[..m], &mut list, lines)
@@ -88,14 +88,12 @@ pub fn pass<R: System>(
         out,
         end: End::More,
     };
-    let mut turns = u64::MAX;
-    while turns > 0 {
+    for _ in 0..u64::MAX {
         now = turn(rt, shows, to, now, first, second, &mut a, &mut b, lines);
         let end = now.end;
         let End::More = end else {
             return now;
         };
-        turns -= 1;
     }
     now
 }

@@ -56,10 +56,7 @@ pub fn answers_in(kind: u8, bytes: u64) -> u64
 pub fn answers_of(t: Tally) -> u64
     ensures { result ≡ answers_of t }
 {
-    if t.first < t.second {
-        return answers_in(t.kind, t.first);
-    }
-    answers_in(t.kind, t.second)
+    answers_in(t.kind, t.first.min(t.second))
 }
 
 // How many answers a log has more than the other, by their bytes.
@@ -67,8 +64,5 @@ pub fn answers_of(t: Tally) -> u64
 pub fn more_of(kind: u8, mine: u64, other: u64) -> u64
     ensures { result ≡ more_of kind mine other }
 {
-    if mine < other {
-        return answers_in(kind, 0);
-    }
-    answers_in(kind, mine - other)
+    answers_in(kind, mine.saturating_sub(other))
 }

@@ -31,7 +31,7 @@ fn compared_line(t: Tally) -> Line
 fn line_of_other(o: Other) -> Line
     ensures { Shows result (other_text o) }
 {
-    other_line(o.letter, o.answer, o.place, o.byte, o.kind)
+    other_line(u8::from(o.log), o.answer, o.place, o.byte, o.kind)
 }
 
 // The first line; none where the logs could not be read.

@@ -2,10 +2,11 @@
 #![tactic(auto)]
 
 use answer::{missing_line, put_found, status};
+use console::command::Command;
 use console::message::say_line;
 use console::output::{Out, flush};
 use console::status::{Status, worse};
-use files::command::named_word;
+use files::command::{Command as Given, named_word};
 use files::message::{fail, say};
 use files::origin::Origin;
 use files::system::{Sink, System};
@@ -67,13 +68,13 @@ fn look<R: System>(
     count: usize,
     number: u64,
 ) -> Status {
-    let t = stream::find(rt, from, lent, count, number);
-    let source = t.source;
-    if source.failed {
-        fail(b"find", name, from.error());
-        return Status::Failed;
+    match stream::find(rt, from, lent, count, number) {
+        Ok(looked) => report(rt, number, looked),
+        Err(e) => {
+            fail(b"find", name, e);
+            Status::Failed
+        }
     }
-    report(rt, number, t.looked)
 }
 
 // The trace that the first word of the command names.
@@ -90,11 +91,10 @@ fn by_marks<R: System>(rt: &R, from: usize, number: u64) -> Status {
     let mut path = io::buffer();
     let n = named_word(rt, from, 1, &mut path);
     let mut lent = numbers();
-    let m = read_marks(rt, b"find", &path[..n], false, &mut lent);
-    if m.read {
-        return open(rt, from, &lent, m.count, number);
-    }
-    Status::Failed
+    let Some(count) = read_marks(rt, b"find", &path[..n], false, &mut lent) else {
+        return Status::Failed;
+    };
+    open(rt, from, &lent, count, number)
 }
 
 fn wanted<R: System>(rt: &R, from: usize) -> Option<u64> {
@@ -103,18 +103,19 @@ fn wanted<R: System>(rt: &R, from: usize) -> Option<u64> {
     parse_number(&word[..n])
 }
 
-// The command, whose words begin at an argument.
-pub fn run<R: System>(rt: &R, from: usize) -> Status {
-    let read = files::command::read_from(
-        rt,
-        from,
-        b"find",
-        b"",
-        b"",
-        3,
-        3,
-        b"usage: find TRACE INDEX NUMBER\n",
-        b"\
+// Its name, what may stand on its line, what it says of itself and what it does.
+struct FindCommand;
+
+impl Command for FindCommand {
+    const NAME: &'static [u8] = b"find";
+
+    const LEAST: usize = 3;
+
+    const MOST: usize = 3;
+
+    const USAGE: &'static [u8] = b"usage: find TRACE INDEX NUMBER\n";
+
+    const HELP: &'static [u8] = b"\
 Prints where a record of a trace starts, in bytes, how many resets came before it, and the record itself. Records are
 numbered from 0. INDEX is a file that index made of this trace or of a beginning of it: the trace is read from the mark
 before the record on, or from the last mark.
@@ -125,14 +126,22 @@ before the record on, or from the last mark.
 A record that is not there is refused on standard error: refusal 2. With an index of another trace the answer has no meaning.
 
 Exit status: 0 the record is printed, 1 there is no such record, 2 could not be done.
-",
-    );
-    if let Err(why) = read {
-        return Status::from(why);
+";
+
+    ghost LEAST = { 3 };
+
+    ghost MOST = { 3 };
+
+    fn answer<R: System>(rt: &R, from: usize, _: Given) -> Status {
+        let Some(number) = wanted(rt, from) else {
+            say(b"find", b"NUMBER is no decimal number\n");
+            return Status::Failed;
+        };
+        by_marks(rt, from, number)
     }
-    let Some(number) = wanted(rt, from) else {
-        say(b"find", b"NUMBER is no decimal number\n");
-        return Status::Failed;
-    };
-    by_marks(rt, from, number)
+}
+
+// The command, whose words begin at an argument.
+pub fn run<R: System>(rt: &R, from: usize) -> Status {
+    console::command::run::<FindCommand, R>(rt, from)
 }

@@ -10,13 +10,6 @@ use files::system::System;
 use std::io::ErrorKind;
 use tool_index::stored::{BYTES, decode};
 
-// Whether a file of marks could be read, and how many it has.
-#[derive(Clone, Copy)]
-pub struct Marks {
-    pub read: bool,
-    pub count: usize,
-}
-
 // Whether so many bytes are marks, and all of them.
 // Ruled out: a mark that is cut; a file longer than any index taken for its beginning.
 fn are_marks(bytes: usize, all: bool) -> bool
@@ -26,12 +19,6 @@ fn are_marks(bytes: usize, all: bool) -> bool
         return bytes % BYTES == 0;
     }
     false
-}
-
-fn of(read: bool, count: usize) -> Marks
-    ensures { result ≡ record { read = read; count = count } }
-{
-    Marks { read, count }
 }
 
 // Reads until the file ends, a read fails or the buffer is full.
@@ -60,46 +47,47 @@ fn at_end<R: System>(rt: &R, from: &Origin) -> bool {
     }
 }
 
-// The marks of an open file. What can't be read and what is no file of marks is said.
+// How many marks an open file has, which are put at the start of lent numbers. What can't be read and what is no file of marks is said.
 fn decode_all<R: System>(
     rt: &R,
     program: &[u8],
     path: &[u8],
     from: &Origin,
     lent: &mut [u64],
-) -> Marks {
+) -> Option<usize> {
     let mut stored = io::large_buffer();
     let f = match read_all(rt, from, &mut stored) {
         Ok(f) => f,
         Err(e) => {
             fail(program, path, e);
-            return of(false, 0);
+            return None;
         }
     };
     let n = f.total;
     if are_marks(n, f.ended | at_end(rt, from)) {
-        return of(true, decode(&stored[..n], lent));
+        return Some(decode(&stored[..n], lent));
     }
     say_of(program, b"no file of marks: ", path);
-    of(false, 0)
+    None
 }
 
-// The marks of the file at a path, at the start of lent numbers. A file that is not there has none, where it may be new. What can't be opened is said.
+// How many marks the file at a path has, which are put at the start of lent numbers. A file that is not there has none, where it may be new. What can't
+// be read and what is no file of marks is said.
 pub fn read_marks<R: System>(
     rt: &R,
     program: &[u8],
     path: &[u8],
     new: bool,
     lent: &mut [u64],
-) -> Marks {
+) -> Option<usize> {
     match Origin::open(rt, path) {
         Ok(from) => decode_all(rt, program, path, &from, lent),
         Err(e) => {
             if new & (e.kind() == ErrorKind::NotFound) {
-                return of(true, 0);
+                return Some(0);
             }
             fail(program, path, e);
-            of(false, 0)
+            None
         }
     }
 }

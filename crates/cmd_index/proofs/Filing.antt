@@ -1,6 +1,6 @@
 -- Marks given to an output one after the other. Assumes nothing.
-use mathlib.Core.Path.{◌≡◌, refl, subst}
-use mathlib.Core.List.{List, []}
+use mathlib.Core.Path.{◌≡◌, subst}
+use mathlib.Core.List.{List}
 use Prim.Native.Nat.{ℕ, ◌+◌, ◌*◌}
 use native.Mathlib.Numerals.{add-one}
 use lib.ListN.{get_or}
@@ -8,21 +8,13 @@ use Rattle.tool_index.specs.Stored.{mark_bytes}
 use Rattle.console.specs.Output.{Gives}
 use Rattle.console.specs.declared.output.Out.{Out}
 use Rattle.console.proofs.Giving.{both}
+use Rattle.console.proofs.Lines.{nothing}
 use Rattle.cmd_index.specs.File.{file_of}
 
 module _ (lent : List ℕ) (o : Out) (buf : List ℕ) where
   pub starts : Gives o buf (file_of lent 0) o buf
   unfolding file_of
-  starts =
-      record {
-        handed = [];
-        lost = [];
-        order = refl;
-        kept = λ _. refl;
-        stopped = λ _. (refl, (refl, refl));
-        same = refl;
-        room = refl;
-      }
+  starts = nothing o buf
 
   -- One mark more.
   pub onwards : (i : ℕ) (o' : Out) (buf' mark : List ℕ) (o'' : Out) (buf'' : List ℕ) → Gives o buf (file_of lent i) o' buf'

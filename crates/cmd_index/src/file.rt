@@ -14,11 +14,9 @@ pub fn put_marks(to: &Sink, out: Out, buf: &mut [u8], lent: &[u64], count: usize
 {
     let n = count.min(lent.len() / 2);
     let mut given = out;
-    let mut i: usize = 0;
-    while i < n {
+    for i in 0..n {
         let mark = mark_bytes(lent[2 * i], lent[2 * i + 1]);
         given = put(to, given, buf, &mark);
-        i += 1;
     }
     given
 }

@@ -3,10 +3,11 @@
 
 use answer::{count_line, keeps, status};
 use cmd_find::marks::read_marks;
+use console::command::Command;
 use console::message::say_line;
 use console::output::{Out, flush, put_line};
 use console::status::{Status, worse};
-use files::command::named_word;
+use files::command::{Command as Given, named_word};
 use files::message::{fail, say};
 use files::origin::Origin;
 use files::system::{Sink, System};
@@ -81,13 +82,13 @@ fn extend<R: System>(
     lent: &mut [u64],
     count: usize,
 ) -> Status {
-    let t = stream::index(rt, from, lent, count);
-    let source = t.source;
-    if source.failed {
-        fail(b"index", name, from.error());
-        return Status::Failed;
+    match stream::index(rt, from, lent, count) {
+        Ok(made) => report(rt, path, lent, made),
+        Err(e) => {
+            fail(b"index", name, e);
+            Status::Failed
+        }
     }
-    report(rt, path, lent, t.made)
 }
 
 // The trace that the first word of the command names.
@@ -104,25 +105,25 @@ fn by_marks<R: System>(rt: &R, from: usize) -> Status {
     let mut path = io::buffer();
     let n = named_word(rt, from, 1, &mut path);
     let mut lent = numbers();
-    let m = read_marks(rt, b"index", &path[..n], true, &mut lent);
-    if m.read {
-        return open(rt, from, &path[..n], &mut lent, m.count);
-    }
-    Status::Failed
+    let Some(count) = read_marks(rt, b"index", &path[..n], true, &mut lent) else {
+        return Status::Failed;
+    };
+    open(rt, from, &path[..n], &mut lent, count)
 }
 
-// The command, whose words begin at an argument.
-pub fn run<R: System>(rt: &R, from: usize) -> Status {
-    let read = files::command::read_from(
-        rt,
-        from,
-        b"index",
-        b"",
-        b"",
-        2,
-        2,
-        b"usage: index TRACE INDEX\n",
-        b"\
+// Its name, what may stand on its line, what it says of itself and what it does.
+struct IndexCommand;
+
+impl Command for IndexCommand {
+    const NAME: &'static [u8] = b"index";
+
+    const LEAST: usize = 2;
+
+    const MOST: usize = 2;
+
+    const USAGE: &'static [u8] = b"usage: index TRACE INDEX\n";
+
+    const HELP: &'static [u8] = b"\
 Makes an index of a trace, of any length: a file that says where records 0, 256, 512 and so on start and how many
 resets came before each, in sixteen bytes a mark. An index that is there already, of this trace or of a beginning of it,
 is extended from its last mark on. The file is replaced whole or not at all.
@@ -133,10 +134,18 @@ The trace is indexed up to a record of unknown kind (refusal 5) or one that is c
 An index has at most 4,096 marks; where a trace needs more, the file is left as it was (refusal 7).
 
 Exit status: 0 the whole trace is indexed, 1 it is indexed up to a stop, 2 could not be done.
-",
-    );
-    match read {
-        Ok(_) => by_marks(rt, from),
-        Err(why) => Status::from(why),
+";
+
+    ghost LEAST = { 2 };
+
+    ghost MOST = { 2 };
+
+    fn answer<R: System>(rt: &R, from: usize, _: Given) -> Status {
+        by_marks(rt, from)
     }
+}
+
+// The command, whose words begin at an argument.
+pub fn run<R: System>(rt: &R, from: usize) -> Status {
+    console::command::run::<IndexCommand, R>(rt, from)
 }

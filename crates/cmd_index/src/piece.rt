@@ -71,10 +71,7 @@ fn left(i: Indexed) -> Position
 fn between(from: u64, to: u64, total: usize) -> usize
     ensures { result ≡ min (to - from) total }
 {
-    if to < from {
-        return 0;
-    }
-    ((to - from) as usize).min(total)
+    to.saturating_sub(from).min(total as u64) as usize
 }
 
 // Indexes a piece from the position that the piece before it left, with so many marks there.

@@ -6,13 +6,6 @@ use files::system::System;
 use files::whole::seek;
 use tool_index::walk::Position;
 
-// The input, and how far the index has come.
-#[derive(Clone, Copy)]
-pub struct Turned {
-    pub source: Source,
-    pub made: Made,
-}
-
 fn nothing_read(at: Position, marks: usize) -> Made {
     Made {
         at,
@@ -33,43 +26,28 @@ fn begin<R: System>(rt: &R, from: &Origin, lent: &[u64], count: usize) -> Made {
     nothing_read(Position::start(), 0)
 }
 
-// Reads once and indexes what is there.
-fn turn<R: System>(rt: &R, from: &Origin, t: Turned, buf: &mut [u8], lent: &mut [u64]) -> Turned {
-    let before = t.made;
-    let source = more(rt, from, t.source, buf, before.read);
-    if source.failed {
-        return Turned {
-            source,
-            made: before,
-        };
-    }
-    let n = source.total;
-    Turned {
-        source,
-        made: make(before.at, before.marks, &buf[..n], lent, source.ended),
-    }
-}
-
-// Reads on until the trace is indexed, or could not be read.
-pub fn index<R: System>(rt: &R, from: &Origin, lent: &mut [u64], count: usize) -> Turned {
+// Reads on until the trace is indexed; or why it could not be read.
+pub fn index<R: System>(
+    rt: &R,
+    from: &Origin,
+    lent: &mut [u64],
+    count: usize,
+) -> std::io::Result<Made> {
     let mut buf = io::large_buffer();
-    let mut now = Turned {
-        source: Source::of(from),
-        made: begin(rt, from, lent, count),
-    };
-    let mut turns = u64::MAX;
-    while turns > 0 {
-        now = turn(rt, from, now, &mut buf, lent);
-        let source = now.source;
-        if source.failed {
-            return now;
-        }
-        let made = now.made;
-        let next = made.next;
-        let Next::More = next else {
-            return now;
+    let mut source = Source::of(from);
+    let mut made = begin(rt, from, lent, count);
+    for _ in 0..u64::MAX {
+        source = more(rt, from, source, &mut buf, made.read)?;
+        made = make(
+            made.at,
+            made.marks,
+            &buf[..source.total],
+            lent,
+            source.ended,
+        );
+        let Next::More = made.next else {
+            break;
         };
-        turns -= 1;
     }
-    now
+    Ok(made)
 }

@@ -6,16 +6,16 @@ use Prim.Native.Nat.{ℕ, suc}
 use Rattle.steps.specs.Iterate.{iterate}
 use Rattle.console.specs.Output.{Gives}
 use Rattle.console.proofs.Giving.{both}
+use Rattle.console.proofs.Lines.{nothing}
 use Rattle.cmd_lines.specs.Piece.{line, words, next, lines, all_words, Turns, Plays}
 use Rattle.cmd_lines.specs.declared.calls.Run.{Run}
 use Rattle.cmd_lines.specs.declared.piece.Wanted.{Wanted}
 use Rattle.cmd_lines.specs.declared.piece.Went.{Went}
-use Rattle.cmd_lines.proofs.Telling.{none}
 
 module _ (w : Wanted) (bytes : List ℕ) (last : Bool) (x : Went) (buf said : List ℕ) where
   pub starts : Plays w bytes last x buf said x buf said
   unfolding iterate lines all_words
-  starts = record { calls = 0; run = refl; printed = none x.lines buf; told = none x.words said }
+  starts = record { calls = 0; run = refl; printed = nothing x.lines buf; told = nothing x.words said }
 
   -- One call more.
   pub onwards : (y : Went) (buf' said' : List ℕ) (z : Went) (buf'' said'' : List ℕ) → Plays w bytes last x buf said y buf' said'

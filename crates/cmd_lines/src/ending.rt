@@ -4,19 +4,17 @@ ghost use Rattle.text.specs.Line.{puts, Shows};
 ghost use Rattle.cmd_lines.specs.Ending.{stop_words, stop_line, ended, status};
 
 use console::status::Status;
+use console::stop::{at_byte, numbered, stop_words};
 use text::line::Line;
 use tool_lines::line::Outcome;
-use trace::Stop;
 
-// Why a replay stopped.
-fn stop_words(line: Line, why: u8) -> Line
+// Why a replay stopped: an access that polling is to make, or as any trace does.
+fn why_stopped(line: Line, why: u8) -> Line
     ensures { result ≡ puts line (stop_words why) }
 {
     match why {
         3 => line.write(b"an access touches SCSR or SCDR"),
-        5 => line.stop_words(Stop::UnknownKind),
-        6 => line.stop_words(Stop::CutRecord),
-        _ => line.stop_words(Stop::ClockLimit),
+        _ => stop_words(line, why),
     }
 }
 
@@ -25,14 +23,7 @@ fn stop_words(line: Line, why: u8) -> Line
 pub fn stop_line(why: u8, place: u64) -> Line
     ensures { Shows result (stop_line why place) }
 {
-    let start = Line::empty()
-        .write(b"refusal ")
-        .decimal(3, why as u64)
-        .write(b", ");
-    stop_words(start, why)
-        .write(b": record at byte ")
-        .decimal(20, place)
-        .put(10)
+    at_byte(why_stopped(numbered(why), why), place)
 }
 
 fn ended(dropped: bool) -> Status

@@ -3,10 +3,12 @@
 
 ghost use Rattle.std.specs.Prelude.{◌≡◌, min};
 
+use console::command::Command;
 use console::message::say_line;
 use console::output::{Out, flush};
 use console::status::Status;
 use ending::{status, stop_line};
+use files::command::Command as Given;
 use files::message::{fail, say, say_of};
 use files::origin::Origin;
 use files::system::{Sink, System};
@@ -42,22 +44,17 @@ fn write_rest(to: &Sink, out: Out, err: &Sink, notes: Out, lines: &[u8], words: 
     written.failed | said.failed
 }
 
-// What could not be read is said before another call can fail.
-fn say_unread(failed: bool, name: &[u8], error: Error) {
-    if failed {
-        fail(b"lines", name, error);
-    }
-}
-
 fn play<R: System>(rt: &R, wanted: Wanted, from: &Origin, name: &[u8]) -> Status {
     let output = Sink::output(rt);
     let errors = Sink::error_output(rt);
     let mut lines = io::large_buffer();
     let mut words = io::buffer();
     let e = stream::play_all(rt, wanted, from, &output, &errors, &mut lines, &mut words);
-    say_unread(e.unread, name, from.error());
+    if let Some(why) = e.unread {
+        fail(b"lines", name, why);
+    }
     let unwritten = write_rest(&output, e.lines, &errors, e.words, &lines, &words);
-    if e.unread | unwritten {
+    if e.unread.is_some() | unwritten {
         return Status::Failed;
     }
     let told = e.told;
@@ -69,7 +66,7 @@ fn play<R: System>(rt: &R, wanted: Wanted, from: &Origin, name: &[u8]) -> Status
 fn at_most(k: u64) -> u32
     ensures { result ≡ min k 65536 }
 {
-    if k < 65536 { k as u32 } else { 65536 }
+    k.min(65536) as u32
 }
 
 // The trace that the second word of the command names.
@@ -99,18 +96,21 @@ fn by_period<R: System>(rt: &R, from: usize, noise: bool) -> Status {
     )
 }
 
-// The command, whose words begin at an argument.
-pub fn run<R: System>(rt: &R, from: usize) -> Status {
-    let read = files::command::read_from(
-        rt,
-        from,
-        b"lines",
-        b"--noise",
-        b"",
-        1,
-        2,
-        b"usage: lines [--noise] PERIOD [TRACE]\n",
-        b"\
+// Its name, what may stand on its line, what it says of itself and what it does.
+struct LinesCommand;
+
+impl Command for LinesCommand {
+    const NAME: &'static [u8] = b"lines";
+
+    const FIRST: &'static [u8] = b"--noise";
+
+    const LEAST: usize = 1;
+
+    const MOST: usize = 2;
+
+    const USAGE: &'static [u8] = b"usage: lines [--noise] PERIOD [TRACE]\n";
+
+    const HELP: &'static [u8] = b"\
 Replays a trace on a module fresh from reset, with polling put in: after every PERIOD
 clocks (1 to 65535) since the start or a reset, status is read, and data if RDRF or OR
 showed. Delivered words, their low 7 bits, are gathered into lines that end with a
@@ -138,10 +138,18 @@ on standard error, with its place in bytes:
   10  hold that would pass 2^64 - 1 clocks since reset
 
 Exit status: 0 no line was dropped, 1 a line was dropped or the trace stopped, 2 could not be done.
-",
-    );
-    match read {
-        Ok(c) => by_period(rt, from, c.option),
-        Err(why) => Status::from(why),
+";
+
+    ghost LEAST = { 1 };
+
+    ghost MOST = { 2 };
+
+    fn answer<R: System>(rt: &R, from: usize, c: Given) -> Status {
+        by_period(rt, from, c.option)
     }
+}
+
+// The command, whose words begin at an argument.
+pub fn run<R: System>(rt: &R, from: usize) -> Status {
+    console::command::run::<LinesCommand, R>(rt, from)
 }

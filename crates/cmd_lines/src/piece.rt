@@ -71,15 +71,13 @@ pub fn play(
     ensures { Plays wanted bytes.now last w buf.old said.old result buf.new said.new }
 {
     let mut now = w;
-    let mut turns = u64::MAX;
-    while turns > 0 {
+    for _ in 0..u64::MAX {
         now = turn(wanted, to, err, now, buf, said, bytes, last);
         let run = now.run;
         let told = run.told;
         if done(told, now.lines, now.words) {
             return now;
         }
-        turns -= 1;
     }
     now
 }

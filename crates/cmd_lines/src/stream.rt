@@ -9,20 +9,22 @@ use console::output::{Out, flush};
 use files::origin::Origin;
 use files::pieces::counted;
 use files::system::{Sink, System};
+use std::io::Error;
 use tool_lines::line::Outcome;
 
-// The input, and where the run stands.
+// The input, where the run stands, and why the input could not be read, if so.
 #[derive(Clone, Copy)]
 struct Turned {
     source: Source,
     went: Went,
+    unread: Option<Error>,
 }
 
-// How a replay ended: whether the trace could not be read, what was told last and at which place in bytes, whether a line was dropped, and the two
+// How a replay ended: why the trace could not be read, if so, what was told last and at which place in bytes, whether a line was dropped, and the two
 // outputs, in whose buffers something may wait.
 #[derive(Clone, Copy)]
 pub struct End {
-    pub unread: bool,
+    pub unread: Option<Error>,
     pub told: Outcome,
     pub place: u64,
     pub dropped: bool,
@@ -59,17 +61,26 @@ fn turn<R: System>(
         lines: before_read(source.plain, to, w.lines, lines),
         words: before_read(source.plain, err, w.words, words),
     };
-    let now = more(rt, from, source, buf, state.at);
-    if now.failed {
-        return Turned {
+    match more(rt, from, source, buf, state.at) {
+        Ok(now) => Turned {
             source: now,
+            went: play(
+                wanted,
+                to,
+                err,
+                start,
+                lines,
+                words,
+                &buf[..now.total],
+                now.ended,
+            ),
+            unread: None,
+        },
+        Err(e) => Turned {
+            source,
             went: start,
-        };
-    }
-    let n = now.total;
-    Turned {
-        source: now,
-        went: play(wanted, to, err, start, lines, words, &buf[..n], now.ended),
+            unread: Some(e),
+        },
     }
 }
 
@@ -100,7 +111,7 @@ fn ended(t: Turned) -> End {
     let lines = w.lines;
     let words = w.words;
     End {
-        unread: source.failed,
+        unread: t.unread,
         told,
         place: counted(source.place, state.at),
         dropped: run.dropped,
@@ -127,18 +138,17 @@ pub fn play_all<R: System>(
             lines: Out::standard(to),
             words: errors(err),
         },
+        unread: None,
     };
-    let mut turns = u64::MAX;
-    while turns > 0 {
+    for _ in 0..u64::MAX {
         now = turn(rt, wanted, from, to, err, now, &mut buf, lines, words);
         let e = ended(now);
         let out = e.lines;
         let said = e.words;
         let told = e.told;
-        if e.unread | (out.failed | said.failed) | !goes_on(told) {
+        if e.unread.is_some() | (out.failed | said.failed) | !goes_on(told) {
             return e;
         }
-        turns -= 1;
     }
     ended(now)
 }

@@ -1,4 +1,3 @@
-pub mod Giving
 pub mod Playing
 pub mod Reaching
 pub mod Noting

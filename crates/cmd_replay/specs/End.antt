@@ -16,7 +16,7 @@ status_of Done = status.Done
 status_of (Refused s) = status.Found
 status_of Play = status.Failed
 status_of Read = status.Failed
-status_of NotRead = status.Failed
+status_of (NotRead e) = status.Failed
 status_of NotWritten = status.Failed
 
 abbrev pub tally_text : Bool → Tally → List ℕ

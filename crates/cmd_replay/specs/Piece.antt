@@ -45,5 +45,5 @@ goes_on Play = true
 goes_on Read = true
 goes_on Done = false
 goes_on (Refused s) = false
-goes_on NotRead = false
+goes_on (NotRead e) = false
 goes_on NotWritten = false

@@ -24,7 +24,7 @@ pub fn status_of(next: Next) -> Status
         Next::Refused(_) => Status::Found,
         Next::Play => Status::Failed,
         Next::Read => Status::Failed,
-        Next::NotRead => Status::Failed,
+        Next::NotRead(_) => Status::Failed,
         Next::NotWritten => Status::Failed,
     }
 }

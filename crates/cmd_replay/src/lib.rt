@@ -1,31 +1,24 @@
 // The command `replay`: a trace played on a module fresh from reset, from a file or from standard input, of any length, to a log on standard output.
 #![tactic(auto)]
 
+use console::command::Command;
 use console::message::say_line;
 use console::output::flush;
 use console::status::{Status, worse};
 use end::{put_end, status_of};
+use files::command::Command as Given;
 use files::message::{fail, say};
 use files::origin::Origin;
 use files::system::{Sink, System};
 use noise::Noted;
 use piece::Next;
 use reception::tally::Tally;
-use std::io::Error;
 use stream::Turned;
 
 mod end;
 mod noise;
 mod piece;
 mod stream;
-
-// What could not be read, said before another call can fail.
-fn say_unread(next: Next, name: &[u8], error: Error) {
-    let Next::NotRead = next else {
-        return;
-    };
-    fail(b"replay", name, error);
-}
 
 // A refusal is said with its record's number, from 0, and its place in bytes.
 fn say_stop(t: Turned) {
@@ -71,7 +64,9 @@ fn replay<R: System>(rt: &R, noise: bool, account: bool, from: &Origin, name: &[
     let t = n.turned;
     let tally = n.tally;
     let next = t.next;
-    say_unread(next, name, from.error());
+    if let Next::NotRead(e) = next {
+        fail(b"replay", name, e);
+    }
     let out = flush(&output, t.out, &lines);
     if out.failed {
         fail(b"replay", b"standard output", output.error());
@@ -84,18 +79,23 @@ fn replay<R: System>(rt: &R, noise: bool, account: bool, from: &Origin, name: &[
     worse(out.failed | last.failed, status_of(next))
 }
 
-// The command, whose words begin at an argument.
-pub fn run<R: System>(rt: &R, from: usize) -> Status {
-    let read = files::command::read_from(
-        rt,
-        from,
-        b"replay",
-        b"--noise",
-        b"--account",
-        0,
-        1,
-        b"usage: replay [--noise] [--account] [TRACE]\n",
-        b"\
+// Its name, what may stand on its line, what it says of itself and what it does.
+struct ReplayCommand;
+
+impl Command for ReplayCommand {
+    const NAME: &'static [u8] = b"replay";
+
+    const FIRST: &'static [u8] = b"--noise";
+
+    const SECOND: &'static [u8] = b"--account";
+
+    const LEAST: usize = 0;
+
+    const MOST: usize = 1;
+
+    const USAGE: &'static [u8] = b"usage: replay [--noise] [--account] [TRACE]\n";
+
+    const HELP: &'static [u8] = b"\
 Plays a trace on a module fresh from reset and writes its log, 18 bytes for each
 record, to standard output. Without TRACE, or with -, it reads standard input.
 
@@ -122,15 +122,22 @@ others were read. The log is the same; both options may be given.
   taken 3, lost 2, waiting 1
 
 Exit status: 0 all answered, 1 the trace stopped, 2 could not be done.
-",
-    );
-    let c = match read {
-        Ok(c) => c,
-        Err(why) => return Status::from(why),
-    };
-    let mut name = io::buffer();
-    let Some(input) = files::input::open_from(rt, from, b"replay", 0, &mut name) else {
-        return Status::Failed;
-    };
-    replay(rt, c.option, c.second, &input.from, &name[..input.name])
+";
+
+    ghost LEAST = { 0 };
+
+    ghost MOST = { 1 };
+
+    fn answer<R: System>(rt: &R, from: usize, c: Given) -> Status {
+        let mut name = io::buffer();
+        let Some(input) = files::input::open_from(rt, from, b"replay", 0, &mut name) else {
+            return Status::Failed;
+        };
+        replay(rt, c.option, c.second, &input.from, &name[..input.name])
+    }
+}
+
+// The command, whose words begin at an argument.
+pub fn run<R: System>(rt: &R, from: usize) -> Status {
+    console::command::run::<ReplayCommand, R>(rt, from)
 }

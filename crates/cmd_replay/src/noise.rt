@@ -116,15 +116,13 @@ pub fn replay<R: System>(
         tally: Tally::none(),
         notes: error_output(err),
     };
-    let mut turns = u64::MAX;
-    while turns > 0 {
+    for _ in 0..u64::MAX {
         now = noticed(rt, from, to, err, now, &mut buf, lines, words, &mut room);
         let t = now.turned;
         let next = t.next;
         if !goes_on(next) {
             return now;
         }
-        turns -= 1;
     }
     now
 }

@@ -8,6 +8,7 @@ use console::output::{Out, put};
 use files::pieces::counted;
 use files::system::Sink;
 use qsm::state::Module;
+use std::io::Error;
 use trace::Stop;
 
 // The module, and the records answered.
@@ -37,7 +38,7 @@ pub enum Next {
     Read,
     Done,
     Refused(Stop),
-    NotRead,
+    NotRead(Error),
     NotWritten,
 }
 

@@ -48,10 +48,6 @@ fn before_read(source: Source, to: &Sink, out: Out, lines: &[u8]) -> Out {
     flush(to, out, lines)
 }
 
-fn after_read(failed: bool) -> Next {
-    if failed { Next::NotRead } else { Next::Play }
-}
-
 // Reads once, behind what is left.
 fn read_on<R: System>(
     rt: &R,
@@ -75,13 +71,21 @@ fn read_on<R: System>(
             next: Next::NotWritten,
         };
     }
-    let now = more(rt, from, source, buf, t.at);
-    Turned {
-        run,
-        out,
-        source: now,
-        at: 0,
-        next: after_read(now.failed),
+    match more(rt, from, source, buf, t.at) {
+        Ok(now) => Turned {
+            run,
+            out,
+            source: now,
+            at: 0,
+            next: Next::Play,
+        },
+        Err(e) => Turned {
+            run,
+            out,
+            source,
+            at: 0,
+            next: Next::NotRead(e),
+        },
     }
 }
 
@@ -136,7 +140,7 @@ pub fn goes_on(next: Next) -> bool
         Next::Read => true,
         Next::Done => false,
         Next::Refused(_) => false,
-        Next::NotRead => false,
+        Next::NotRead(_) => false,
         Next::NotWritten => false,
     }
 }
@@ -156,14 +160,12 @@ pub fn replay<R: System>(rt: &R, from: &Origin, to: &Sink, lines: &mut [u8]) -> 
     let mut buf = io::large_buffer();
     let mut room = answers();
     let mut now = begin(from, to);
-    let mut turns = u64::MAX;
-    while turns > 0 {
+    for _ in 0..u64::MAX {
         now = turn(rt, from, to, now, &mut buf, lines, &mut room);
         let next = now.next;
         if !goes_on(next) {
             return now;
         }
-        turns -= 1;
     }
     now
 }

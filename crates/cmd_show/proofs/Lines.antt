@@ -9,6 +9,7 @@ use Rattle.steps.specs.Iterate.{iterate}
 use Rattle.console.specs.Output.{Gives}
 use Rattle.console.specs.declared.output.Out.{Out}
 use Rattle.console.proofs.Giving.{both}
+use Rattle.console.proofs.Lines.{nothing}
 use Rattle.trace.specs.Trace.{byte_at}
 use Rattle.trace.proofs.Going.{rest}
 use Rattle.cmd_show.specs.Item.{item}
@@ -31,16 +32,7 @@ module _ (traces : Bool) (bytes : List ℕ) (r : Run) (o : Out) (buf : List ℕ)
       record {
         lines = 0;
         run = refl;
-        given =
-            record {
-              handed = [];
-              lost = [];
-              order = refl;
-              kept = λ _. refl;
-              stopped = λ _. (refl, (refl, refl));
-              same = refl;
-              room = refl;
-            };
+        given = nothing o buf;
       }
 
   -- One line more.
@@ -88,13 +80,13 @@ inside traces bytes kind n at i before is shown =
     let long : length t ≡ length bytes - at = ap length (rest bytes at) ∙ length-drop at bytes in
     (omega (arith, size, w.0), omega (arith, size, w.1, long, before))
 
-nothing : (traces : Bool) (kind n : ℕ) → (item traces kind n []).what ≡ what.More
-nothing true kind n = refl
-nothing false kind n = refl
+no_more : (traces : Bool) (kind n : ℕ) → (item traces kind n []).what ≡ what.More
+no_more true kind n = refl
+no_more false kind n = refl
 
 -- Behind the last byte more is needed.
 pub at_end_holds : (traces : Bool) (bytes : List ℕ) (r : Run) → length bytes ≤ r.at → what.More ≡ (here traces bytes r).what
-at_end_holds traces bytes r past-it = rw (drop_of_length-le bytes {i = r.at} past-it) (sym (nothing traces r.kind r.number))
+at_end_holds traces bytes r past-it = rw (drop_of_length-le bytes {i = r.at} past-it) (sym (no_more traces r.kind r.number))
 
 pub never : {A : Type 0} (b : Bool) → b ≡ true → b ≡ false → A
 never b bad good = let z : ◌≡◌ {A = ℕ} 0 1 = cc in absurd (omega arith)

@@ -1,13 +1,14 @@
 // The command `show`: a log, or with --trace a trace, as text, a line an answer or record, from a file or from standard input, of any length.
 #![tactic(auto)]
 
+use console::command::Command;
 use console::message::say_line;
 use console::output::flush;
 use console::status::Status;
+use files::command::Command as Given;
 use files::message::{fail, say};
 use files::origin::Origin;
 use files::system::{Sink, System};
-use std::io::Error;
 use stream::{Next, Turned};
 
 mod item;
@@ -27,7 +28,7 @@ fn report(traces: bool, t: Turned) -> Status {
             );
             Status::Failed
         }
-        Next::NotRead => Status::Failed,
+        Next::NotRead(_) => Status::Failed,
         Next::NotWritten => Status::Failed,
         Next::More => {
             say(b"show", b"input too long\n");
@@ -36,20 +37,13 @@ fn report(traces: bool, t: Turned) -> Status {
     }
 }
 
-// Whether it could not be read, which is said before another call can fail.
-fn say_unread(next: Next, name: &[u8], error: Error) {
-    let Next::NotRead = next else {
-        return;
-    };
-    fail(b"show", name, error);
-}
-
 fn show<R: System>(rt: &R, traces: bool, from: &Origin, name: &[u8]) -> Status {
     let output = Sink::output(rt);
     let mut lines = io::large_buffer();
     let t = stream::show_all(rt, traces, from, &output, &mut lines);
-    let next = t.next;
-    say_unread(next, name, from.error());
+    if let Next::NotRead(e) = t.next {
+        fail(b"show", name, e);
+    }
     let out = flush(&output, t.out, &lines);
     if out.failed {
         fail(b"show", b"standard output", output.error());
@@ -58,18 +52,21 @@ fn show<R: System>(rt: &R, traces: bool, from: &Origin, name: &[u8]) -> Status {
     report(traces, t)
 }
 
-// The command, whose words begin at an argument.
-pub fn run<R: System>(rt: &R, from: usize) -> Status {
-    let read = files::command::read_from(
-        rt,
-        from,
-        b"show",
-        b"--trace",
-        b"",
-        0,
-        1,
-        b"usage: show [LOG]\n       show --trace [TRACE]\n",
-        b"\
+// Its name, what may stand on its line, what it says of itself and what it does.
+struct ShowCommand;
+
+impl Command for ShowCommand {
+    const NAME: &'static [u8] = b"show";
+
+    const FIRST: &'static [u8] = b"--trace";
+
+    const LEAST: usize = 0;
+
+    const MOST: usize = 1;
+
+    const USAGE: &'static [u8] = b"usage: show [LOG]\n       show --trace [TRACE]\n";
+
+    const HELP: &'static [u8] = b"\
 Prints a log as text, a line for each answer; with --trace, a trace, a line for each
 record. Without a file, or with -, it reads standard input.
 
@@ -87,15 +84,22 @@ The refusals of an answer, each of which has changed nothing in the module:
   9 (not yours)       a driver that shares the module's queue has no right to what it asks
 What is no log or no trace is reported on standard error, with its number from 0 and its
 place in bytes; what came before it is printed.
-",
-    );
-    let c = match read {
-        Ok(c) => c,
-        Err(why) => return Status::from(why),
-    };
-    let mut name = io::buffer();
-    let Some(input) = files::input::open_from(rt, from, b"show", 0, &mut name) else {
-        return Status::Failed;
-    };
-    show(rt, c.option, &input.from, &name[..input.name])
+";
+
+    ghost LEAST = { 0 };
+
+    ghost MOST = { 1 };
+
+    fn answer<R: System>(rt: &R, from: usize, c: Given) -> Status {
+        let mut name = io::buffer();
+        let Some(input) = files::input::open_from(rt, from, b"show", 0, &mut name) else {
+            return Status::Failed;
+        };
+        show(rt, c.option, &input.from, &name[..input.name])
+    }
+}
+
+// The command, whose words begin at an argument.
+pub fn run<R: System>(rt: &R, from: usize) -> Status {
+    console::command::run::<ShowCommand, R>(rt, from)
 }

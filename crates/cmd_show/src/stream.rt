@@ -9,6 +9,7 @@ use console::output::{Out, flush};
 use files::origin::Origin;
 use files::pieces::counted;
 use files::system::{Sink, System};
+use std::io::Error;
 use text::message::Fault;
 
 #[derive(Clone, Copy)]
@@ -16,7 +17,7 @@ pub enum Next {
     More,
     Done,
     Bad(Fault),
-    NotRead,
+    NotRead(Error),
     NotWritten,
 }
 
@@ -93,22 +94,24 @@ fn turn<R: System>(
             next: Next::NotWritten,
         };
     }
-    let now = more(rt, from, source, buf, run.at);
+    let read = more(rt, from, source, buf, run.at);
     let start = Run {
         kind: run.kind,
         number: run.number,
         at: 0,
     };
-    if now.failed {
-        return Turned {
+    match read {
+        Ok(now) => after(
+            show(traces, start, to, written, lines, &buf[..now.total]),
+            now,
+        ),
+        Err(e) => Turned {
             run: start,
-            source: now,
+            source,
             out: written,
-            next: Next::NotRead,
-        };
+            next: Next::NotRead(e),
+        },
     }
-    let n = now.total;
-    after(show(traces, start, to, written, lines, &buf[..n]), now)
 }
 
 // Shows what comes from an input, on the output that is given. What is left in the buffer for lines is still to be written.
@@ -130,14 +133,12 @@ pub fn show_all<R: System>(
         out: Out::standard(to),
         next: Next::More,
     };
-    let mut turns = u64::MAX;
-    while turns > 0 {
+    for _ in 0..u64::MAX {
         now = turn(rt, traces, from, to, now, &mut buf, lines);
         let next = now.next;
         let Next::More = next else {
             return now;
         };
-        turns -= 1;
     }
     now
 }

@@ -6,10 +6,10 @@ use Rattle.steps.specs.Iterate.{iterate}
 use Rattle.console.specs.Output.{Gives}
 use Rattle.console.specs.declared.output.Out.{Out}
 use Rattle.console.proofs.Giving.{both}
+use Rattle.console.proofs.Lines.{nothing}
 use Rattle.tool_wave.specs.declared.Waves.{Waves}
 use Rattle.tool_wave.specs.declared.Turned.{Turned}
 use Rattle.cmd_wave.specs.Piece.{step_told, again, before, texts}
-use Rattle.cmd_wave.proofs.Telling.{none}
 
 -- After so many turns a drawing stands here, and the output has been given their text.
 pub record Stands (hz : ℕ) (bytes : List ℕ) (s : Waves) (o : Out) (buf : List ℕ) (t : Turned) (o' : Out) (buf' : List ℕ) : Type 0 where
@@ -20,7 +20,7 @@ pub record Stands (hz : ℕ) (bytes : List ℕ) (s : Waves) (o : Out) (buf : Lis
 module _ (hz : ℕ) (bytes : List ℕ) (s : Waves) (o : Out) (buf : List ℕ) where
   pub starts : Stands hz bytes s o buf (before s) o buf
   unfolding iterate texts
-  starts = record { turns = 0; turned = refl; given = none o buf }
+  starts = record { turns = 0; turned = refl; given = nothing o buf }
 
   -- One turn more.
   pub onwards : (t : Turned) (o' : Out) (buf' : List ℕ) (u : Turned) (o'' : Out) (buf'' : List ℕ) → Stands hz bytes s o buf t o' buf'

@@ -4,15 +4,15 @@
 ghost use Rattle.std.specs.Prelude.{◌≡◌};
 ghost use Rattle.cmd_wave.specs.Rate.{rate};
 
+use console::command::Command;
 use console::message::say_line;
 use console::output::{Out, flush, put, put_line};
 use console::status::Status;
 use ending::{status, stop_line};
-use files::command::Command;
+use files::command::Command as Given;
 use files::message::{fail, say};
 use files::origin::Origin;
 use files::system::{Sink, System};
-use std::io::Error;
 use tool_wave::{Step, Stop};
 
 mod ending;
@@ -93,22 +93,17 @@ fn write_rest(to: &Sink, out: Out, lines: &[u8]) -> bool {
     end.failed
 }
 
-// What could not be read is said before another call can fail.
-fn say_unread(failed: bool, name: &[u8], error: Error) {
-    if failed {
-        fail(b"wave", name, error);
-    }
-}
-
 fn draw<R: System>(rt: &R, hz: u32, from: &Origin, name: &[u8]) -> Status {
     let output = Sink::output(rt);
     let mut lines = io::large_buffer();
     let out = put_header(&output, Out::standard(&output), &mut lines);
     let e = stream::draw_all(rt, hz, from, &output, out, &mut lines);
-    say_unread(e.unread, name, from.error());
-    let timed = put_end(e.unread, hz, e.clock, &output, e.out, &mut lines);
+    if let Some(why) = e.unread {
+        fail(b"wave", name, why);
+    }
+    let timed = put_end(e.unread.is_some(), hz, e.clock, &output, e.out, &mut lines);
     let unwritten = write_rest(&output, timed, &lines);
-    if e.unread | unwritten {
+    if e.unread.is_some() | unwritten {
         return Status::Failed;
     }
     let told = e.told;
@@ -147,7 +142,7 @@ fn first_word<R: System>(rt: &R, from: usize) -> u32 {
     rate(text::number::parse_number(&word[..n]))
 }
 
-fn start<R: System>(rt: &R, from: usize, c: Command) -> Status {
+fn start<R: System>(rt: &R, from: usize, c: Given) -> Status {
     if c.option {
         let hz = first_word(rt, from);
         if hz == 0 {
@@ -163,18 +158,21 @@ fn start<R: System>(rt: &R, from: usize, c: Command) -> Status {
     open(rt, from, 16777216, 0)
 }
 
-// The command, whose words begin at an argument.
-pub fn run<R: System>(rt: &R, from: usize) -> Status {
-    let read = files::command::read_from(
-        rt,
-        from,
-        b"wave",
-        b"--clock",
-        b"",
-        0,
-        2,
-        b"usage: wave [TRACE]\n       wave --clock HZ [TRACE]\n",
-        b"\
+// Its name, what may stand on its line, what it says of itself and what it does.
+struct WaveCommand;
+
+impl Command for WaveCommand {
+    const NAME: &'static [u8] = b"wave";
+
+    const FIRST: &'static [u8] = b"--clock";
+
+    const LEAST: usize = 0;
+
+    const MOST: usize = 2;
+
+    const USAGE: &'static [u8] = b"usage: wave [TRACE]\n       wave --clock HZ [TRACE]\n";
+
+    const HELP: &'static [u8] = b"\
 Plays a trace on a module fresh from reset, and writes what its lines do as a VCD file, which GTKWave, PulseView and sigrok read. Without
 TRACE, or with -, it reads standard input.
 
@@ -191,10 +189,18 @@ A stop is said on standard error, with its place in bytes; the file up to there 
   10  the clocks since reset or since the start would pass 2^64 - 1
 
 Exit status: 0 drawn to the end, 1 the trace stopped, 2 could not be done.
-",
-    );
-    match read {
-        Ok(c) => start(rt, from, c),
-        Err(why) => Status::from(why),
+";
+
+    ghost LEAST = { 0 };
+
+    ghost MOST = { 2 };
+
+    fn answer<R: System>(rt: &R, from: usize, c: Given) -> Status {
+        start(rt, from, c)
     }
+}
+
+// The command, whose words begin at an argument.
+pub fn run<R: System>(rt: &R, from: usize) -> Status {
+    console::command::run::<WaveCommand, R>(rt, from)
 }

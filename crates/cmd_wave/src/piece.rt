@@ -59,8 +59,7 @@ pub fn draw(hz: u32, s: Waves, to: &Sink, out: Out, buf: &mut [u8], bytes: &[u8]
         outcome: Ok(None),
     };
     let mut given = out;
-    let mut turns = u64::MAX;
-    while turns > 0 {
+    for _ in 0..u64::MAX {
         now = go_on(now.state, bytes);
         let told = now.outcome;
         given = put_step(hz, to, given, buf, told);
@@ -70,7 +69,6 @@ pub fn draw(hz: u32, s: Waves, to: &Sink, out: Out, buf: &mut [u8], bytes: &[u8]
                 out: given,
             };
         }
-        turns -= 1;
     }
     Went {
         turned: now,

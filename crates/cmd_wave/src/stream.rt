@@ -6,20 +6,22 @@ use console::output::{Out, flush};
 use files::origin::Origin;
 use files::pieces::counted;
 use files::system::{Sink, System};
+use std::io::Error;
 use tool_wave::{Step, Stop, Turned};
 
-// The input, and where the drawing stands.
+// The input, where the drawing stands, and why the input could not be read, if so.
 #[derive(Clone, Copy)]
 struct Drawing {
     source: Source,
     went: Went,
+    unread: Option<Error>,
 }
 
-// How a drawing ended: whether the trace could not be read, what was told last, at which place in bytes and at which clock since the start, and the
+// How a drawing ended: why the trace could not be read, if so, what was told last, at which place in bytes and at which clock since the start, and the
 // output, in whose buffer something may wait.
 #[derive(Clone, Copy)]
 pub struct End {
-    pub unread: bool,
+    pub unread: Option<Error>,
     pub told: Result<Option<Step>, Stop>,
     pub place: u64,
     pub clock: u64,
@@ -49,17 +51,17 @@ fn turn<R: System>(
     let t = w.turned;
     let s = t.state;
     let out = before_read(source.plain, to, w.out, lines);
-    let now = more(rt, from, source, buf, s.at);
-    if now.failed {
-        return Drawing {
+    match more(rt, from, source, buf, s.at) {
+        Ok(now) => Drawing {
             source: now,
+            went: draw(hz, rebased(s), to, out, lines, &buf[..now.total]),
+            unread: None,
+        },
+        Err(e) => Drawing {
+            source,
             went: Went { turned: t, out },
-        };
-    }
-    let n = now.total;
-    Drawing {
-        source: now,
-        went: draw(hz, rebased(s), to, out, lines, &buf[..n]),
+            unread: Some(e),
+        },
     }
 }
 
@@ -72,7 +74,7 @@ fn ended(d: Drawing) -> End {
     let told = t.outcome;
     let out = w.out;
     End {
-        unread: source.failed,
+        unread: d.unread,
         told,
         place: counted(source.place, s.at),
         clock: probe.clock,
@@ -99,18 +101,17 @@ pub fn draw_all<R: System>(
             },
             out,
         },
+        unread: None,
     };
-    let mut turns = u64::MAX;
-    while turns > 0 {
+    for _ in 0..u64::MAX {
         now = turn(rt, hz, from, to, now, &mut buf, lines);
         let source = now.source;
         let e = ended(now);
         let told = e.told;
         let given = e.out;
-        if e.unread | given.failed | source.ended | !wants(told) {
+        if e.unread.is_some() | given.failed | source.ended | !wants(told) {
             return e;
         }
-        turns -= 1;
     }
     ended(now)
 }

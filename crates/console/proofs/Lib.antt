@@ -1,2 +1,4 @@
 pub mod Giving
+pub mod Lines
 pub mod Reading
+pub mod Stopping

@@ -1,6 +1,7 @@
 // What a command reads: piece by piece into a buffer that it lends, each piece behind the bytes that are left of the one before.
+ghost use Rattle.std.specs.Prelude.{IfOk};
 ghost use Rattle.io.specs.Counts.{IsPrefixLen};
-ghost use Rattle.console.specs.Input.{Reads};
+ghost use Rattle.console.specs.Input.{Reads, Keeps};
 
 use files::origin::Origin;
 use files::pieces::{carry, counted, fill};
@@ -16,8 +17,6 @@ pub struct Source {
     // Bytes of the input before the buffer's first.
     pub place: u64,
     pub ended: bool,
-    // It could not be read.
-    pub failed: bool,
 }
 
 impl Source {
@@ -28,31 +27,29 @@ impl Source {
             total: 0,
             place: 0,
             ended: false,
-            failed: false,
         }
     }
 }
 
-// Carries the bytes of the buffer from a place on to its start, and reads once behind them.
-// Ruled out: a byte that is left lost or overwritten; more bytes reported than the buffer has.
-pub fn more<R: System>(rt: &R, from: &Origin, source: Source, buf: &mut [u8], at: usize) -> Source
-    ensures prefix_len { IsPrefixLen result.total buf.new }
-    ensures reads { Reads source buf.old at result buf.new }
+// Carries the bytes of the buffer from a place on to its start, and reads once behind them; or why they could not be read.
+// Ruled out: a byte that is left lost or overwritten, or lost by a read that fails; more bytes reported than the buffer has.
+pub fn more<R: System>(
+    rt: &R,
+    from: &Origin,
+    source: Source,
+    buf: &mut [u8],
+    at: usize,
+) -> std::io::Result<Source>
+    ensures prefix_len { IfOk result (λ s. IsPrefixLen s.total buf.new) }
+    ensures reads { IfOk result (λ s. Reads source buf.old at s buf.new) }
+    ensures kept { Keeps source buf.old at buf.new }
 {
     let have = carry(buf, at, source.total);
-    let mut now = source;
-    now.place = counted(source.place, at);
-    match fill(rt, from, buf, have, source.ended) {
-        Ok(f) => {
-            now.total = f.total;
-            now.ended = f.ended;
-            now.failed = false;
-        }
-        Err(_) => {
-            now.total = have;
-            now.ended = true;
-            now.failed = true;
-        }
-    }
-    now
+    let f = fill(rt, from, buf, have, source.ended)?;
+    Ok(Source {
+        plain: source.plain,
+        total: f.total,
+        place: counted(source.place, at),
+        ended: f.ended,
+    })
 }

@@ -1,6 +1,6 @@
 use Rattle.std.proofs.Common.{sym, ◌∙◌}
 use Rattle.cmd_compare.specs.Lines.{field_line}
-use Rattle.cmd_compare.proofs.Giving.{given_if, given_not}
+use Rattle.console.proofs.Lines.{given_if, given_not}
 use Rattle.cmd_compare.proofs.show.put_field.Goals as goal
 
 pub returns-then-differs : goal.returns-then-differs

@@ -1,5 +1,4 @@
-use mathlib.Core.Path.{◌≡◌}
-use lib.ListN.{length}
+use Rattle.std.proofs.Common.{◌≡◌, length}
 use Rattle.io.specs.Counts.{IsPrefixLen}
 use Rattle.cmd_find.proofs.marks.read_all.Given as goal
 

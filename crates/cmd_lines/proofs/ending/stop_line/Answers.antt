@@ -1,19 +1,6 @@
-use Rattle.text.proofs.Puts.{put_puts, puts_append, shows}
-use Rattle.cmd_lines.specs.Ending.{stop_line}
-use Rattle.cmd_lines.proofs.Telling.{stop_fits}
+use Rattle.console.proofs.Stopping.{shown}
+use Rattle.cmd_lines.proofs.Telling.{words_length}
 use Rattle.cmd_lines.proofs.ending.stop_line.Goals as goal
 
 pub returns : goal.returns
-returns c =
-    let args = c.args in
-    rw (
-      c.put.ensures,
-      c.decimal-2.ensures,
-      c.write-2.ensures,
-      c.stop_words.ensures,
-      c.write-start.ensures,
-      c.decimal.ensures,
-      c.write.ensures,
-      c.empty.ensures,
-      put_puts,
-    ) (simp puts_append (shows (stop_line args.why args.place) (stop_fits args.why args.place)))
+returns c = rw (c.at_byte.ensures, c.why_stopped.ensures, c.numbered.ensures) (shown _ _ _ (words_length c.args.why))

@@ -1,4 +1,4 @@
-use Rattle.cmd_replay.proofs.Giving.{given_if, given_not}
+use Rattle.console.proofs.Lines.{given_if, given_not}
 use Rattle.cmd_replay.proofs.end.put_tally.Goals as goal
 
 pub returns-then-noise : goal.returns-then-noise

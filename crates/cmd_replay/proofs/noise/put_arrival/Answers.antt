@@ -1,4 +1,4 @@
-use Rattle.cmd_replay.proofs.Giving.{nothing, line_given}
+use Rattle.console.proofs.Lines.{nothing, line_given}
 use Rattle.cmd_replay.proofs.noise.put_arrival.Goals as goal
 
 pub returns-in-Some : goal.returns-in-Some

@@ -4,9 +4,6 @@ use Rattle.trace.specs.Trace.{answer_length}
 use Rattle.cmd_replay.specs.Noted.{Notes}
 use Rattle.cmd_replay.proofs.noise.replay.Given as goal
 
-abbrev pub invariant-loop-turns : goal.invariant-loop-turns
-invariant-loop-turns g l = (length l.buf ≡ 65536) × (length l.room ≡ answer_length) × (length l.lines ≡ length l.initial.lines) × (length l.words ≡ length l.initial.words)
+abbrev pub invariant-loop : goal.invariant-loop
+invariant-loop g l = (length l.buf ≡ 65536) × (length l.room ≡ answer_length) × (length l.lines ≡ length l.initial.lines) × (length l.words ≡ length l.initial.words)
     × Notes l.now.turned.run l.now.tally
-
-abbrev pub decreases-loop-turns : goal.decreases-loop-turns
-decreases-loop-turns g l = l.turns

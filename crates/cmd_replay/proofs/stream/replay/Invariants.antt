@@ -3,8 +3,5 @@ use lib.ListN.{length}
 use Rattle.cmd_replay.specs.Reached.{Reached}
 use Rattle.cmd_replay.proofs.stream.replay.Given as goal
 
-abbrev pub invariant-loop-turns : goal.invariant-loop-turns
-invariant-loop-turns g l = (length l.buf ≡ 65536) × (length l.room ≡ 589824) × (length l.lines ≡ length l.initial.lines) × Reached l.now.run
-
-abbrev pub decreases-loop-turns : goal.decreases-loop-turns
-decreases-loop-turns g l = l.turns
+abbrev pub invariant-loop : goal.invariant-loop
+invariant-loop g l = (length l.buf ≡ 65536) × (length l.room ≡ 589824) × (length l.lines ≡ length l.initial.lines) × Reached l.now.run

@@ -1,21 +1,7 @@
-use Rattle.text.proofs.Puts.{put_puts, puts_append, shows}
+use Rattle.console.proofs.Stopping.{shown, words_length}
 use Rattle.tool_wave.specs.Stop.{number_of}
-use Rattle.cmd_wave.specs.Ending.{stop_line}
-use Rattle.cmd_wave.proofs.Telling.{stop_fits}
 use Rattle.cmd_wave.proofs.ending.stop_line.Goals as goal
 
 pub returns : goal.returns
 returns c =
-    let args = c.args in
-    rw (
-      c.put.ensures,
-      c.decimal-2.ensures,
-      c.write-2.ensures,
-      c.stop_words.ensures,
-      c.write-start.ensures,
-      c.decimal.ensures,
-      c.from.ensures,
-      c.write.ensures,
-      c.empty.ensures,
-      put_puts,
-    ) (simp puts_append (shows (stop_line (number_of args.why) args.place) (stop_fits (number_of args.why) args.place)))
+    rw (c.at_byte.ensures, c.stop_words.ensures, c.numbered.ensures, c.from-number.ensures) (shown _ _ _ (words_length (number_of c.args.why)))

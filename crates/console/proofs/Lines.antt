@@ -1,4 +1,4 @@
--- Lines given to an output one after the other. Assumes nothing.
+-- A line that is given whole, or not at all. Assumes nothing.
 use mathlib.Core.Path.{◌≡◌, refl, subst}
 use mathlib.Core.Bool.{Bool, true, false, cond}
 use mathlib.Core.List.{List, []}
@@ -11,6 +11,7 @@ use Rattle.text.specs.declared.line.Line.{Line}
 use Rattle.console.specs.Output.{Gives}
 use Rattle.console.specs.declared.output.Out.{Out}
 
+-- Nothing is given.
 pub nothing : (o : Out) (buf : List ℕ) → Gives o buf [] o buf
 nothing o buf =
     record {
