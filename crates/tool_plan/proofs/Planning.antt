@@ -56,9 +56,7 @@ refuses s window none =
     on (accepts s window (proposal s)) (λ t. absurd (none (proposal s) t)) (λ f. refused s window (proposal s) f)
 
 pub least : Least
-least s window p q h is =
-    let e : proposal s ≡ q = same_plan (proposal s) q (sym (gives s window p h) ∙ is) in
-    omega (arith, ap (λ (r : Plan). r.clock) e, clock_not_above s window p ((means s window p).0 h))
+least s window p h = rw (gives s window p h) (clock_not_above s window p ((means s window p).0 h))
 
 -- Of the plan that is given, in every window.
 in_window : (s : SetPoints) (window later : ℕ) → accepts s window (proposal s) ≡ true →

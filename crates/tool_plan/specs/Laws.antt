@@ -1,5 +1,5 @@
 -- Document 02, L10: what is shown of the planner.
-use Rattle.std.specs.Prelude.{◌≡◌, true, Some, None, IsSome, ℕ, ◌≤◌, ◌<◌}
+use Rattle.std.specs.Prelude.{◌≡◌, true, Some, None, IsSome, MatchOption, ℕ, ◌≤◌, ◌<◌}
 use Rattle.tool_plan.specs.Check.{accepts}
 use Rattle.tool_plan.specs.Quickest.{planned, changed_at, revised}
 use Rattle.tool_plan.specs.declared.SetPoints.{SetPoints}
@@ -21,8 +21,8 @@ Refuses =
 -- Its clock is the least of all accepted plans'.
 abbrev pub Least : Type 0
 Least =
-    (s : SetPoints) (window : ℕ) (p given : Plan) → accepts s window p ≡ true → planned s window ≡ Some given →
-    given.clock ≤ p.clock
+    (s : SetPoints) (window : ℕ) (p : Plan) → accepts s window p ≡ true →
+    MatchOption (planned s window) ⊥ (λ given. given.clock ≤ p.clock)
 
 -- So a window is too short exactly below that clock, and it is the same plan in every window that isn't.
 abbrev pub AnyWindow : Type 0
