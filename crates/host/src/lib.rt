@@ -1,5 +1,5 @@
-// A module that a host keeps and changes in place: each entry copies the state, calls the step by value and stores the result. `noise`, `taken` and `lost`
-// only look.
+// A module that a host keeps and changes in place: each entry gives a copy of the state to the step by value and stores the result. `noise`, `taken` and
+// `lost` only look.
 #![tactic(auto)]
 
 ghost use Rattle.std.specs.Prelude.{◌≡◌};
@@ -10,15 +10,23 @@ ghost use Rattle.host.specs.Host.{Applied, read_event, write_event};
 use qsm::event::{Answer, Event, Stepped};
 use qsm::state::Module;
 
+// A step on the module.
+fn applied<F: FnOnce(Module) -> Stepped>(m: &mut Module, step: F) -> Answer
+    requires { F.pre step m.now }
+    ensures { F.post step m.old (record { state = m.new; answer = result }) }
+{
+    let s = *m;
+    let r = step(s);
+    *m = r.state;
+    r.answer
+}
+
 // An event on the module.
 // Ruled out: the module kept as it was; the answer of the event before.
 pub fn apply(m: &mut Module, e: Event) -> Answer
     ensures { Applied m.old e m.new result }
 {
-    let s = *m;
-    let r = qsm::event::step(s, e);
-    *m = r.state;
-    r.answer
+    applied(m, |s| qsm::event::step(s, e))
 }
 
 // A reset by value, of whatever module.
@@ -34,10 +42,7 @@ pub fn restart(_m: Module) -> Stepped
 pub fn reset(m: &mut Module) -> Answer
     ensures { Applied m.old Reset m.new result }
 {
-    let s = *m;
-    let r = restart(s);
-    *m = r.state;
-    r.answer
+    applied(m, |s| restart(s))
 }
 
 // Ruled out: the clocks of the hold before; the module from before the hold's clocks.
@@ -45,10 +50,7 @@ pub fn reset(m: &mut Module) -> Answer
 pub fn hold(m: &mut Module, pins: u8, rxd: bool, clocks: u32) -> Answer
     ensures { Applied m.old (Hold pins rxd clocks) m.new result }
 {
-    let s = *m;
-    let r = qsm::event::hold(s, pins, rxd, clocks);
-    *m = r.state;
-    r.answer
+    applied(m, |s| qsm::event::hold(s, pins, rxd, clocks))
 }
 
 // Ruled out: a read that leaves a flag which reading clears; one that is always a supervisor's.
@@ -56,10 +58,7 @@ pub fn hold(m: &mut Module, pins: u8, rxd: bool, clocks: u32) -> Answer
 pub fn read(m: &mut Module, supervisor: bool, width: u8, offset: u16) -> Answer
     ensures { Applied m.old (read_event supervisor width offset) m.new result }
 {
-    let s = *m;
-    let r = qsm::event::read(s, supervisor, width, offset);
-    *m = r.state;
-    r.answer
+    applied(m, |s| qsm::event::read(s, supervisor, width, offset))
 }
 
 // Ruled out: a write that is answered and not stored; a refused write that leaves its first half.
@@ -67,10 +66,10 @@ pub fn read(m: &mut Module, supervisor: bool, width: u8, offset: u16) -> Answer
 pub fn write(m: &mut Module, supervisor: bool, width: u8, offset: u16, value: u32) -> Answer
     ensures { Applied m.old (write_event supervisor width offset value) m.new result }
 {
-    let s = *m;
-    let r = qsm::event::write(s, supervisor, width, offset, value);
-    *m = r.state;
-    r.answer
+    applied(
+        m,
+        |s| qsm::event::write(s, supervisor, width, offset, value),
+    )
 }
 
 // The noise figure of the word in SCDR, of a module that is only looked at.
