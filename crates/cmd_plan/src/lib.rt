@@ -80,13 +80,7 @@ fn put(w: Wanted, points: SetPoints, plan: Plan, to: &Sink) -> Out {
 }
 
 // Into what a path names.
-fn write_to<R: System>(
-    rt: &R,
-    w: Wanted,
-    points: SetPoints,
-    plan: Plan,
-    path: &[u8],
-) -> Status {
+fn write_to<R: System>(rt: &R, w: Wanted, points: SetPoints, plan: Plan, path: &[u8]) -> Status {
     let mut place = io::buffer();
     let mut beside = io::buffer();
     let Some(t) = shell::target::begin(rt, b"plan", path, &mut place, &mut beside) else {

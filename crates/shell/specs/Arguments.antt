@@ -18,7 +18,7 @@ flagged s k i =
 
 abbrev pub waiting : Seen → ℕ → Seen
 waiting s k =
-    record { help = s.help; version = s.version; ended = s.ended; waits = Some k; unknown = s.unknown; words = s.words; flags = s.flags; values = s.values; places = s.places }
+    record { help = s.help; version = s.version; ended = s.ended; waits = cond (ltb k 16) (Some k) None; unknown = s.unknown; words = s.words; flags = s.flags; values = s.values; places = s.places }
 
 -- The value of the option that waits.
 abbrev pub valued : Seen → ℕ → ℕ → Seen

@@ -60,10 +60,11 @@ impl Seen {
         self
     }
 
+    // No option has a number above 15.
     fn waiting(mut self, k: u8) -> Seen
         ensures { result ≡ waiting self k }
     {
-        self.waits = Some(k);
+        self.waits = if k < 16 { Some(k) } else { None };
         self
     }
 
