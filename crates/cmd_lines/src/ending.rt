@@ -1,33 +1,34 @@
 // How a replay ended: what is said of it, and the status.
 ghost use Rattle.std.specs.Prelude.{◌≡◌};
 ghost use Rattle.text.specs.Line.{puts, Shows};
+ghost use Rattle.tool_lines.specs.Stop.{number_of};
 ghost use Rattle.cmd_lines.specs.Ending.{stop_words, stop_line, ended, status};
 
 use console::status::Status;
 use text::line::Line;
 use tool_lines::line::Outcome;
-use trace::Stop;
+use tool_lines::stop::Stop;
 
 // Why a replay stopped.
-fn stop_words(line: Line, why: u8) -> Line
-    ensures { result ≡ puts line (stop_words why) }
+fn stop_words(line: Line, why: Stop) -> Line
+    ensures { result ≡ puts line (stop_words (number_of why)) }
 {
     match why {
-        3 => line.write(b"an access touches SCSR or SCDR"),
-        5 => line.stop_words(Stop::UnknownKind),
-        6 => line.stop_words(Stop::CutRecord),
-        _ => line.stop_words(Stop::ClockLimit),
+        Stop::Access => line.write(b"an access touches SCSR or SCDR"),
+        Stop::UnknownKind => line.stop_words(trace::Stop::UnknownKind),
+        Stop::CutRecord => line.stop_words(trace::Stop::CutRecord),
+        Stop::ClockLimit => line.stop_words(trace::Stop::ClockLimit),
     }
 }
 
 // The same with its number, and the place in bytes of the record before which it stopped.
 // Ruled out: the number of another refusal; the words of another.
-pub fn stop_line(why: u8, place: u64) -> Line
-    ensures { Shows result (stop_line why place) }
+pub fn stop_line(why: Stop, place: u64) -> Line
+    ensures { Shows result (stop_line (number_of why) place) }
 {
     let start = Line::empty()
         .write(b"refusal ")
-        .decimal(3, why as u64)
+        .decimal(3, u8::from(why) as u64)
         .write(b", ");
     stop_words(start, why)
         .write(b": record at byte ")

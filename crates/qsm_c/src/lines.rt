@@ -58,13 +58,13 @@ fn in_numbers(state: Lines, o: Outcome) -> LinesTold
             cause,
             refusal: 0,
         },
-        Outcome::Stopped(refusal) => LinesTold {
+        Outcome::Stopped(why) => LinesTold {
             state,
             number: 0,
             kind: STOP,
             length: 0,
             cause: 0,
-            refusal,
+            refusal: u8::from(why),
         },
         Outcome::Ended => LinesTold {
             state,
@@ -74,13 +74,13 @@ fn in_numbers(state: Lines, o: Outcome) -> LinesTold
             cause: 0,
             refusal: 0,
         },
-        Outcome::Refused(refusal) => LinesTold {
+        Outcome::Refused(why) => LinesTold {
             state,
             number: 0,
             kind: REFUSED,
             length: 0,
             cause: 0,
-            refusal,
+            refusal: u8::from(why),
         },
     }
 }
