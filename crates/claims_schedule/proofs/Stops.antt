@@ -20,6 +20,9 @@ use Rattle.trace.specs.declared.Parsed.TheVariants.{Record, Unknown, Cut}
 use Rattle.tool_lines.specs.Schedule.{reaches}
 use Rattle.tool_lines.specs.Call.{turned, event_on, event_or_stop, record_on, turn, go_for, go_on, called}
 use Rattle.tool_lines.specs.declared.line.Outcome.TheVariants.{Ended, Refused}
+use Rattle.std.specs.Prelude.{Some, None}
+use Rattle.tool_lines.specs.declared.stop.Stop.TheVariants as stop
+use Rattle.tool_lines.specs.declared.stop.Refusal.TheVariants.{Period}
 use Rattle.tool_lines.specs.declared.Lines.{Lines}
 use Rattle.tool_lines.specs.declared.Turned.{Turned}
 use Rattle.claims_schedule.specs.Stops.{touching, small, stopped_by10, Meets, Reads, Writes, StandsAt, Others, CallRefusals}
@@ -29,11 +32,11 @@ use Rattle.claims_schedule.proofs.Touching.{passing_is}
 
 module _ (period : ℕ) (t : List ℕ) (s : Lines) (idle : s.left ≡ 0) where
   at_record : (a : Access) (n : ℕ) → s.at < length t → parsed (drop s.at t) ≡ Record (event.Access a) n
-      → turn period t s ≡ event_or_stop period s (event.Access a) n (cond (reaches a) 3 0)
+      → turn period t s ≡ event_or_stop period s (event.Access a) n (cond (reaches a) (Some stop.Access) None)
   unfolding turn
   at_record a n inside is = rw (idle, lt-leb (length t) s.at inside, is)
 
-  by_reach : (a : Access) (n : ℕ) (b : Bool) → turn period t s ≡ event_or_stop period s (event.Access a) n (cond b 3 0) → Meets b period t s
+  by_reach : (a : Access) (n : ℕ) (b : Bool) → turn period t s ≡ event_or_stop period s (event.Access a) n (cond b (Some stop.Access) None) → Meets b period t s
   unfolding event_on
   by_reach a n true is = record { stays = λ h. is; goes_on = λ h. absurd (true≢false h) }
   by_reach a n false is =
@@ -41,7 +44,7 @@ module _ (period : ℕ) (t : List ℕ) (s : Lines) (idle : s.left ≡ 0) where
 
   meets : (a : Access) (n : ℕ) (b : Bool) → reaches a ≡ b → s.at < length t → parsed (drop s.at t) ≡ Record (event.Access a) n → Meets b period t s
   meets a n b is inside there =
-      by_reach a n b (at_record a n inside there ∙ ap (λ (x : Bool). event_or_stop period s (event.Access a) n (cond x 3 0)) is)
+      by_reach a n b (at_record a n inside there ∙ ap (λ (x : Bool). event_or_stop period s (event.Access a) n (cond x (Some stop.Access) None)) is)
 
 inside_of : (t : List ℕ) (at x : ℕ) (l : List ℕ) → drop at t ≡ x ∷ l → at < length t
 inside_of t at x l is = omega (arith, length-drop at t, ap (λ (r : List ℕ). length r) is)
@@ -120,7 +123,7 @@ others period t s rest =
 
 -- ---- calls
 
-refused_1 : (period : ℕ) (t : List ℕ) (room : ℕ) (s : Lines) → (period ≡ 0) ⊎ (65535 < period) → called period t room s ≡ turned s (Refused 1)
+refused_1 : (period : ℕ) (t : List ℕ) (room : ℕ) (s : Lines) → (period ≡ 0) ⊎ (65535 < period) → called period t room s ≡ turned s (Refused Period)
 refused_1 period t room s (inl z) = rw (eq-eqb period 0 z)
 refused_1 period t room s (inr h) = rw (ne_eqb period 0 (λ z. omega arith), lt-ltb 65535 period h)
 

@@ -3,6 +3,8 @@ use Rattle.std.specs.Prelude.{◌≡◌, ◌⊎◌, Bool, true, false, cond, ◌
 use Rattle.tool_lines.specs.Call.{turned, turn, called}
 use Rattle.tool_lines.specs.declared.line.Outcome.{Outcome}
 use Rattle.tool_lines.specs.declared.line.Outcome.TheVariants.{Nothing, Stopped, Ended, Refused}
+use Rattle.tool_lines.specs.declared.stop.Stop.TheVariants as stop
+use Rattle.tool_lines.specs.declared.stop.Refusal.TheVariants.{Period, Room}
 use Rattle.tool_lines.specs.declared.Lines.{Lines}
 
 -- ---- accesses
@@ -18,16 +20,16 @@ abbrev pub small : ℕ → ℕ → Bool
 small width value = cond (eqb width 1) (ltb value 0x100) (cond (eqb width 2) (ltb value 0x10000) (ltb value 0x100000000))
 
 abbrev pub stopped_by3 : Outcome
-stopped_by3 = Stopped 3
+stopped_by3 = Stopped stop.Access
 
 abbrev pub stopped_by5 : Outcome
-stopped_by5 = Stopped 5
+stopped_by5 = Stopped stop.UnknownKind
 
 abbrev pub stopped_by6 : Outcome
-stopped_by6 = Stopped 6
+stopped_by6 = Stopped stop.CutRecord
 
 abbrev pub stopped_by10 : Outcome
-stopped_by10 = Stopped 10
+stopped_by10 = Stopped stop.ClockLimit
 
 -- The replay stands at an access: with 3 it stays before it; else it goes on, with nothing to tell.
 pub record Meets (stops : Bool) (period : ℕ) (t : List ℕ) (s : Lines) : Type 0 where
@@ -76,8 +78,8 @@ Others = (period : ℕ) (t : List ℕ) (s : Lines) (rest : List ℕ) → StaysBe
 
 -- A period of 0 or above 65,535 is 1, whatever the buffer; then a buffer under 128 bytes is 7. Either leaves the state.
 pub record Refusals (period : ℕ) (t : List ℕ) (room : ℕ) (s : Lines) : Type 0 where
-  pub is_1 : (period ≡ 0) ⊎ (65535 < period) → called period t room s ≡ turned s (Refused 1)
-  pub is_7 : 0 < period → period ≤ 65535 → room < 128 → called period t room s ≡ turned s (Refused 7)
+  pub is_1 : (period ≡ 0) ⊎ (65535 < period) → called period t room s ≡ turned s (Refused Period)
+  pub is_7 : 0 < period → period ≤ 65535 → room < 128 → called period t room s ≡ turned s (Refused Room)
   -- At a trace's end a call that is not refused ends.
   pub ends : 0 < period → period ≤ 65535 → 128 ≤ room → s.left ≡ 0 → called period [] room s ≡ turned s Ended
 

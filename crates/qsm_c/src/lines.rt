@@ -55,18 +55,18 @@ fn in_numbers(state: Lines, o: Outcome) -> LinesTold
             cause,
             ..nothing
         },
-        Outcome::Stopped(refusal) => LinesTold {
+        Outcome::Stopped(why) => LinesTold {
             kind: STOP,
-            refusal,
+            refusal: u8::from(why),
             ..nothing
         },
         Outcome::Ended => LinesTold {
             kind: END,
             ..nothing
         },
-        Outcome::Refused(refusal) => LinesTold {
+        Outcome::Refused(why) => LinesTold {
             kind: REFUSED,
-            refusal,
+            refusal: u8::from(why),
             ..nothing
         },
     }

@@ -16,11 +16,12 @@ use Rattle.trace.specs.declared.Parsed.{Parsed}
 use Rattle.trace.specs.declared.Parsed.TheVariants.{Record, Unknown, Cut}
 use Rattle.trace.proofs.Playing.{otherwise, record_within, record_kept}
 use Rattle.tool_lines.specs.Poll.{polled}
-use Rattle.tool_lines.specs.Schedule.{stops}
+use Rattle.std.specs.Prelude.{Option, Some, None}
 use Rattle.tool_lines.specs.Gather.{shown}
-use Rattle.tool_lines.specs.Call.{turned, moved_to, held_for, poll_now, since_of, hold_on, event_on, record_on, under_way, turn, nothing, onward, go_for, turns_left, go_on, event_or_stop}
+use Rattle.tool_lines.specs.Call.{stop_at, turned, moved_to, held_for, poll_now, since_of, hold_on, event_on, record_on, under_way, turn, nothing, onward, go_for, turns_left, go_on, event_or_stop}
 use Rattle.tool_lines.specs.Laws.{Bytes}
 use Rattle.tool_lines.specs.Pieces.{wants}
+use Rattle.tool_lines.specs.declared.stop.Stop.{Stop}
 use Rattle.tool_lines.specs.declared.line.Outcome.{Outcome}
 use Rattle.tool_lines.specs.declared.line.Outcome.TheVariants.{Nothing, Handed, Dropped, Stopped, Ended, Refused}
 use Rattle.tool_lines.specs.declared.Lines.{Lines}
@@ -98,23 +99,22 @@ module _ (period : ℕ) (t u : List ℕ) where
     more : wants r.outcome ≡ true → r.state ≡ s
     within : r.state.at ≤ length t
 
-  event_extends : (s : Lines) (e : Event) (a why : ℕ) → a ≤ length t → s.at ≤ length t → (goes : Bool) →
-      Extends s (cond goes (event_on period (moved_to s a) e) (turned s (Stopped why))) (cond goes (event_on period (moved_to s a) e) (turned s (Stopped why)))
-  event_extends s e a why h i true =
+  event_extends : (s : Lines) (e : Event) (n : ℕ) (why : Option Stop) → s.at + n ≤ length t → s.at ≤ length t →
+      Extends s (event_or_stop period s e n why) (event_or_stop period s e n why)
+  event_extends s e n None h i =
       record {
         same = λ _. refl;
-        more = λ w. absurd (true≢false (sym w ∙ event_unwanted period (moved_to s a) e));
-        within = omega (arith, event_at_holds period (moved_to s a) e);
+        more = λ w. absurd (true≢false (sym w ∙ event_unwanted period (moved_to s (s.at + n)) e));
+        within = omega (arith, event_at_holds period (moved_to s (s.at + n)) e);
       }
-  event_extends s e a why h i false = record { same = λ _. refl; more = λ _. refl; within = i }
+  event_extends s e n (Some why) h i = record { same = λ _. refl; more = λ _. refl; within = i }
 
   record_extends : (s : Lines) (p : Parsed) → parsed (drop s.at t) ≡ p → s.at ≤ length t →
       Extends s (record_on period s p) (record_on period s (parsed (drop s.at (t ++ u))))
   record_extends s (Record e n) is h =
       subst (λ (q : Parsed). Extends s (record_on period s (Record e n)) (record_on period s q))
       (sym (ap parsed (drop-append-le s.at t u h) ∙ record_kept (drop s.at t) u is))
-      (event_extends s e (s.at + n) (stops s.device.clock e) (omega (arith, (record_within (drop s.at t) is).1, length-drop s.at t)) h
-      (eqb (stops s.device.clock e) 0))
+      (event_extends s e n (stop_at s.device.clock e) (omega (arith, (record_within (drop s.at t) is).1, length-drop s.at t)) h)
   record_extends s Unknown is h =
       subst (λ (q : Parsed). Extends s (record_on period s Unknown) (record_on period s q))
       (sym (ap parsed (drop-append-le s.at t u h) ∙ unknown_kept (drop s.at t) u is))
@@ -124,15 +124,15 @@ module _ (period : ℕ) (t u : List ℕ) where
   turn_by : (s : Lines) → s.at ≤ length t → (idle over : Bool) → leb (length t) s.at ≡ over →
       Extends s
       (cond idle (cond over (turned s Ended) (record_on period s (parsed (drop s.at t))))
-      (event_or_stop period s (under_way s) 0 (stops s.device.clock (under_way s))))
+      (event_or_stop period s (under_way s) 0 (stop_at s.device.clock (under_way s))))
       (cond idle (cond (leb (length (t ++ u)) s.at) (turned s Ended) (record_on period s (parsed (drop s.at (t ++ u)))))
-      (event_or_stop period s (under_way s) 0 (stops s.device.clock (under_way s))))
+      (event_or_stop period s (under_way s) 0 (stop_at s.device.clock (under_way s))))
   turn_by s h true true over = record { same = λ w. absurd (true≢false w); more = λ _. refl; within = h }
   turn_by s h true false over =
       rw (lt-leb (length (t ++ u)) s.at (omega (arith, leb-false (length t) s.at over, length-append t u)))
       (record_extends s (parsed (drop s.at t)) refl h)
   turn_by s h false past over =
-      event_extends s (under_way s) (s.at + 0) (stops s.device.clock (under_way s)) (omega arith) h (eqb (stops s.device.clock (under_way s)) 0)
+      event_extends s (under_way s) 0 (stop_at s.device.clock (under_way s)) (omega arith) h
 
   turn_extends : (s : Lines) → s.at ≤ length t → Extends s (turn period t s) (turn period (t ++ u) s)
   unfolding turn

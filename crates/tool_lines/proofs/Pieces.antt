@@ -10,6 +10,7 @@ use Rattle.tool_lines.specs.Call.{turned, moved_to, nothing, go_for, go_on, turn
 use Rattle.tool_lines.specs.Laws.{Bytes}
 use Rattle.tool_lines.specs.Pieces.{wants, waiting, rebased, Stand, Told, next_piece, call_on, ahead, piece_calls, calls, InPieces, Cuts}
 use Rattle.tool_lines.specs.declared.line.Line.{Line}
+use Rattle.tool_lines.specs.declared.stop.Stop.{Stop}
 use Rattle.tool_lines.specs.declared.line.Outcome.{Outcome}
 use Rattle.tool_lines.specs.declared.line.Outcome.TheVariants.{Nothing, Handed, Dropped, Stopped, Ended, Refused}
 use Rattle.tool_lines.specs.declared.Lines.{Lines}
@@ -151,7 +152,7 @@ cuts = record { waits = refl; stops = refl }
 
 -- ---- the lent buffer
 
-buffer_stop : (l : Line) (lent : List ℕ) (why : ℕ) (b : Bool) → handed_in l (cond b Nothing (Stopped why)) lent ≡ lent
+buffer_stop : (l : Line) (lent : List ℕ) (why : Stop) (b : Bool) → handed_in l (cond b Nothing (Stopped why)) lent ≡ lent
 buffer_stop l lent why true = refl
 buffer_stop l lent why false = refl
 

@@ -14,9 +14,10 @@ use Rattle.qsm.specs.declared.event.Event.TheVariants as event
 use Rattle.trace.specs.Trace.{parsed}
 use Rattle.trace.specs.declared.Parsed.{Parsed}
 use Rattle.trace.specs.declared.Parsed.TheVariants.{Record, Unknown, Cut}
-use Rattle.tool_lines.specs.Schedule.{stops}
-use Rattle.tool_lines.specs.Call.{turned, moved_to, since_of, hold_on, event_on, event_or_stop, record_on, under_way, turn, nothing, onward, go_for, turns_left, go_on}
+use Rattle.std.specs.Prelude.{Option, Some, None}
+use Rattle.tool_lines.specs.Call.{stop_at, turned, moved_to, since_of, hold_on, event_on, event_or_stop, record_on, under_way, turn, nothing, onward, go_for, turns_left, go_on}
 use Rattle.tool_lines.specs.Pieces.{ahead}
+use Rattle.tool_lines.specs.declared.stop.Stop.{Stop}
 use Rattle.tool_lines.specs.declared.line.Outcome.TheVariants.{Ended}
 use Rattle.tool_lines.specs.declared.Lines.{Lines}
 use Rattle.tool_lines.specs.declared.Turned.{Turned}
@@ -43,13 +44,14 @@ module _ (period n : ℕ) where
   event_ahead s a (Hold pins rxd k) = hold_ahead s a pins rxd k
   event_ahead s a (event.Access x) = refl
 
-  or_stop_ahead : (s : Lines) (e : Event) (k why : ℕ) → event_or_stop period (ahead n s) e k why ≡ moved n (event_or_stop period s e k why)
-  or_stop_ahead s e k why =
+  or_stop_ahead : (s : Lines) (e : Event) (k : ℕ) (why : Option Stop) → event_or_stop period (ahead n s) e k why ≡ moved n (event_or_stop period s e k why)
+  or_stop_ahead s e k None =
       let sum : n + s.at + k ≡ n + (s.at + k) = omega arith in
-      either (eqb why 0) _ _ _ _ (ap (λ (a : ℕ). event_on period (moved_to s a) e) sum ∙ event_ahead s (s.at + k) e) refl
+      ap (λ (a : ℕ). event_on period (moved_to s a) e) sum ∙ event_ahead s (s.at + k) e
+  or_stop_ahead s e k (Some why) = refl
 
   record_ahead : (s : Lines) (p : Parsed) → record_on period (ahead n s) p ≡ moved n (record_on period s p)
-  record_ahead s (Record e k) = or_stop_ahead s e k (stops s.device.clock e)
+  record_ahead s (Record e k) = or_stop_ahead s e k (stop_at s.device.clock e)
   record_ahead s Unknown = refl
   record_ahead s Cut = refl
 
@@ -71,7 +73,7 @@ module _ (period n : ℕ) where
         (ap (λ (b : Bool). cond b (turned (ahead n s) Ended) (record_on period (ahead n s) (parsed (drop (n + s.at) (c ++ t))))) (over_ahead s)
         ∙ ap (λ (l : List ℕ). cond (leb (length t) s.at) (turned (ahead n s) Ended) (record_on period (ahead n s) (parsed l))) (rest_ahead s)
         ∙ either (leb (length t) s.at) _ _ _ _ refl (record_ahead s (parsed (drop s.at t))))
-        (or_stop_ahead s (under_way s) 0 (stops s.device.clock (under_way s)))
+        (or_stop_ahead s (under_way s) 0 (stop_at s.device.clock (under_way s)))
 
     go_ahead : (k : ℕ) (s : Lines) → go_for k period (c ++ t) (ahead n s) ≡ moved n (go_for k period t s)
     unfolding go_for

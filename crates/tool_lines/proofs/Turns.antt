@@ -16,8 +16,10 @@ use Rattle.trace.specs.Trace.{parsed}
 use Rattle.trace.specs.declared.Parsed.{Parsed}
 use Rattle.trace.specs.declared.Parsed.TheVariants.{Record, Unknown, Cut}
 use Rattle.trace.proofs.Playing.{record_within}
-use Rattle.tool_lines.specs.Schedule.{stops}
-use Rattle.tool_lines.specs.Call.{turned, moved_to, held_for, poll_now, since_of, hold_on, event_on, event_or_stop, size_of, record_on, under_way, turn, nothing, onward, go_for, turns_left, go_on}
+use Rattle.std.specs.Prelude.{Option, Some, None}
+use Rattle.tool_lines.specs.Call.{stop_at, turned, moved_to, held_for, poll_now, since_of, hold_on, event_on, event_or_stop, size_of, record_on, under_way, turn, nothing, onward, go_for, turns_left, go_on}
+use Rattle.tool_lines.specs.declared.stop.Stop.{Stop}
+use Rattle.tool_lines.specs.declared.stop.Stop.TheVariants as stop
 use Rattle.tool_lines.specs.declared.line.Outcome.{Outcome}
 use Rattle.tool_lines.specs.declared.line.Outcome.TheVariants.{Nothing, Stopped, Ended}
 use Rattle.tool_lines.specs.declared.Lines.{Lines}
@@ -73,39 +75,36 @@ never : (o : Outcome) → nothing o ≡ false → o ≡ Nothing → ⊥
 never o is not = true≢false (ap nothing (sym not) ∙ is)
 
 module _ (period : ℕ) (t : List ℕ) (s : Lines) (pos : 0 < period) where
-  event_moves : (e : Event) (n why : ℕ) → 0 < n → s.at < length t → (goes : Bool)
-      → (cond goes (event_on period (moved_to s (s.at + n)) e) (turned s (Stopped why))).outcome ≡ Nothing
-      → Moves t s (cond goes (event_on period (moved_to s (s.at + n)) e) (turned s (Stopped why))).state
-  event_moves e n why some lt true is = byte (omega (arith, event_at_holds period (moved_to s (s.at + n)) e)) lt
-  event_moves e n why some lt false is = absurd (never (Stopped why) refl is)
+  event_moves : (e : Event) (n : ℕ) (why : Option Stop) → 0 < n → s.at < length t → (event_or_stop period s e n why).outcome ≡ Nothing
+      → Moves t s (event_or_stop period s e n why).state
+  event_moves e n None some lt is = byte (omega (arith, event_at_holds period (moved_to s (s.at + n)) e)) lt
+  event_moves e n (Some why) some lt is = absurd (never (Stopped why) refl is)
 
   record_moves : (p : Parsed) → parsed (drop s.at t) ≡ p → s.at < length t → (record_on period s p).outcome ≡ Nothing
       → Moves t s (record_on period s p).state
-  record_moves (Record e n) here lt is = event_moves e n (stops s.device.clock e) (record_within (drop s.at t) here).0 lt (eqb (stops s.device.clock e) 0) is
-  record_moves Unknown here lt is = absurd (never (Stopped 5) refl is)
-  record_moves Cut here lt is = absurd (never (Stopped 6) refl is)
+  record_moves (Record e n) here lt is = event_moves e n (stop_at s.device.clock e) (record_within (drop s.at t) here).0 lt is
+  record_moves Unknown here lt is = absurd (never (Stopped stop.UnknownKind) refl is)
+  record_moves Cut here lt is = absurd (never (Stopped stop.CutRecord) refl is)
 
-  hold_moves : 0 < s.left → (why : ℕ) (goes : Bool)
-      → (cond goes (event_on period (moved_to s (s.at + 0)) (under_way s)) (turned s (Stopped why))).outcome ≡ Nothing
-      → Moves t s (cond goes (event_on period (moved_to s (s.at + 0)) (under_way s)) (turned s (Stopped why))).state
+  hold_moves : 0 < s.left → (why : Option Stop) → (event_or_stop period s (under_way s) 0 why).outcome ≡ Nothing
+      → Moves t s (event_or_stop period s (under_way s) 0 why).state
   unfolding event_on
-  hold_moves some why true is =
+  hold_moves some None is =
       clock (hold_at period (moved_to s (s.at + 0)) s.pins s.rxd s.left ∙ omega arith)
       (hold_left period (moved_to s (s.at + 0)) s.pins s.rxd s.left pos some)
-  hold_moves some why false is = absurd (never (Stopped why) refl is)
+  hold_moves some (Some why) is = absurd (never (Stopped why) refl is)
 
   abbrev turning : Bool → Bool → Turned
   turning idle over =
       cond idle (cond over (turned s Ended) (record_on period s (parsed (drop s.at t))))
-      (event_or_stop period s (under_way s) 0 (stops s.device.clock (under_way s)))
+      (event_or_stop period s (under_way s) 0 (stop_at s.device.clock (under_way s)))
 
   moves_by : (idle over : Bool) → eqb s.left 0 ≡ idle → leb (length t) s.at ≡ over → (turning idle over).outcome ≡ Nothing
       → Moves t s (turning idle over).state
   moves_by true true idle over is = absurd (never Ended refl is)
   moves_by true false idle over is = record_moves (parsed (drop s.at t)) refl (leb-false (length t) s.at over) is
   moves_by false past idle over is =
-      hold_moves (omega (arith, eqb-false s.left 0 idle)) (stops s.device.clock (under_way s))
-      (eqb (stops s.device.clock (under_way s)) 0) is
+      hold_moves (omega (arith, eqb-false s.left 0 idle)) (stop_at s.device.clock (under_way s)) is
 
   pub moves : (turn period t s).outcome ≡ Nothing → Moves t s (turn period t s).state
   unfolding turn

@@ -8,20 +8,24 @@ use native.Mathlib.Nat.{zero-mod}
 use lib.Dec.{eqb, ltb, leb}
 use lib.ListN.{length, drop, length-drop}
 use lib.Seq.{drop-drop, get_or-drop}
-use borrow.Author.Tests.{eqb-true, leb-true, leb-false}
+use borrow.Author.Tests.{leb-true, leb-false}
+use Rattle.std.specs.Prelude.{Option, Some, None}
 use Rattle.qsm.specs.model.State.{reset_module}
+use Rattle.qsm.specs.model.Event.{clock_limit}
 use Rattle.qsm.specs.declared.event.Event.{Event}
 use Rattle.qsm.specs.declared.event.Event.TheVariants.{Reset, Hold}
 use Rattle.qsm.specs.declared.event.Event.TheVariants as event
 use Rattle.trace.specs.Trace.{byte_at, reset_kind, hold_kind, read_kind, write_kind, long_hold_kind, parsed}
 use Rattle.trace.specs.declared.Parsed.{Parsed}
 use Rattle.trace.specs.declared.Parsed.TheVariants.{Record, Unknown, Cut}
-use Rattle.tool_lines.specs.Schedule.{stops, acts, since_after, clock_after, stopped, followed, going, next, scheduled}
+use Rattle.tool_lines.specs.Schedule.{reaches, stops, acts, since_after, clock_after, stopped, followed, going, next, scheduled}
 use Rattle.tool_lines.specs.Gather.{gather}
 use Rattle.tool_lines.specs.Replay.{notices, first_line}
 use Rattle.tool_lines.specs.Noise.{silent, hears, noises}
-use Rattle.tool_lines.specs.Call.{turned, moved_to, held_for, poll_now, since_of, hold_on, event_on, event_or_stop, record_on, under_way, turn, nothing, go_for, turns_left, go_on}
+use Rattle.tool_lines.specs.Call.{stop_at, turned, moved_to, held_for, poll_now, since_of, hold_on, event_on, event_or_stop, record_on, under_way, turn, nothing, go_for, turns_left, go_on}
 use Rattle.tool_lines.specs.Laws.{Replayed, replayed, meant, telling, over_and_over, Bytes, Whole, FromStart}
+use Rattle.tool_lines.specs.declared.stop.Stop.{Stop}
+use Rattle.tool_lines.specs.declared.stop.Stop.TheVariants as stop
 use Rattle.tool_lines.specs.declared.line.Outcome.{Outcome}
 use Rattle.tool_lines.specs.declared.line.Outcome.TheVariants.{Nothing, Handed, Dropped, Stopped, Ended, Refused}
 use Rattle.tool_lines.specs.declared.Lines.{Lines}
@@ -33,17 +37,33 @@ use Rattle.tool_lines.proofs.Turns.{moves, fewer}
 -- ---- a turn
 
 module _ (period : ℕ) (t : List ℕ) (pos : 0 < period) (s : Lines) where
-  -- An event, if it doesn't stop the replay, whose record ends at a place.
-  or_stop : (e : Event) (a : ℕ) → (stops s.device.clock e ≡ 0 → played period t pos (moved_to s a) e ≡ told period t pos (event_on period (moved_to s a) e)) →
-      (goes : Bool) → eqb (stops s.device.clock e) 0 ≡ goes →
+  -- An event, if it doesn't stop the replay, whose record has so many bytes.
+  abbrev goes_to : Event → ℕ → ℕ → Replayed
+  goes_to e a why =
       replayed s.line s.noise.line s.device
-      (cond goes
+      (cond (eqb why 0)
       (followed (acts period (since_of period s) e)
       (scheduled period (since_after period (since_of period s) e) (clock_after s.device.clock e) (drop a t)))
-      (stopped (stops s.device.clock e)))
-      ≡ told period t pos (cond goes (event_on period (moved_to s a) e) (turned s (Stopped (stops s.device.clock e))))
-  or_stop e a means true is = means (eqb-true (stops s.device.clock e) 0 is)
-  or_stop e a means false is = stop_means s.line s.noise.line s.device (stops s.device.clock e)
+      (stopped why))
+
+  or_stop : (e : Event) (n : ℕ) →
+      (stops s.device.clock e ≡ 0 → played period t pos (moved_to s (s.at + n)) e ≡ told period t pos (event_on period (moved_to s (s.at + n)) e)) →
+      goes_to e (s.at + n) (stops s.device.clock e) ≡ told period t pos (event_or_stop period s e n (stop_at s.device.clock e))
+  or_stop Reset n means = means refl
+  or_stop (Hold pins rxd k) n means = by_limit (ltb clock_limit (s.device.clock + k)) refl
+    where
+      by_limit : (over : Bool) → ltb clock_limit (s.device.clock + k) ≡ over →
+          goes_to (Hold pins rxd k) (s.at + n) (cond over 10 0)
+          ≡ told period t pos (event_or_stop period s (Hold pins rxd k) n (cond over (Some stop.ClockLimit) None))
+      by_limit true is = stop_means s.line s.noise.line s.device 10
+      by_limit false is = means (ap (λ (b : Bool). cond b 10 0) is)
+  or_stop (event.Access x) n means = by_place (reaches x) refl
+    where
+      by_place : (there : Bool) → reaches x ≡ there →
+          goes_to (event.Access x) (s.at + n) (cond there 3 0)
+          ≡ told period t pos (event_or_stop period s (event.Access x) n (cond there (Some stop.Access) None))
+      by_place true is = stop_means s.line s.noise.line s.device 3
+      by_place false is = means (ap (λ (b : Bool). cond b 3 0) is)
 
   record_means : eqb s.left 0 ≡ true → (p : Parsed) →
       replayed s.line s.noise.line s.device (next (scheduled period) period (since_of period s) s.device.clock (drop s.at t) p)
@@ -51,19 +71,18 @@ module _ (period : ℕ) (t : List ℕ) (pos : 0 < period) (s : Lines) where
   record_means idle (Record e n) =
       ap (λ (d : List ℕ). replayed s.line s.noise.line s.device (going (λ passed now. scheduled period passed now d) period (since_of period s) s.device.clock e))
       (drop-drop n s.at t)
-      ∙ or_stop e (s.at + n) (event_means period t pos (moved_to s (s.at + n)) e idle) (eqb (stops s.device.clock e) 0) refl
+      ∙ or_stop e n (event_means period t pos (moved_to s (s.at + n)) e idle)
   record_means idle Unknown = stop_means s.line s.noise.line s.device 5
   record_means idle Cut = stop_means s.line s.noise.line s.device 6
 
   way_means : replayed s.line s.noise.line s.device
       (going (λ passed now. scheduled period passed now (drop s.at t)) period (since_of period s) s.device.clock (under_way s))
-      ≡ told period t pos (event_or_stop period s (under_way s) 0 (stops s.device.clock (under_way s)))
+      ≡ told period t pos (event_or_stop period s (under_way s) 0 (stop_at s.device.clock (under_way s)))
   way_means =
       let same : s.at ≡ s.at + 0 = omega arith in
       ap (λ (a : ℕ). replayed s.line s.noise.line s.device (going (λ passed now. scheduled period passed now (drop a t)) period (since_of period s) s.device.clock (under_way s)))
       same
-      ∙ or_stop (under_way s) (s.at + 0) (hold_played_means period t pos (moved_to s (s.at + 0)) s.pins s.rxd s.left)
-      (eqb (stops s.device.clock (under_way s)) 0) refl
+      ∙ or_stop (under_way s) 0 (hold_played_means period t pos (moved_to s (s.at + 0)) s.pins s.rxd s.left)
 
   turn_by : (idle over : Bool) → eqb s.left 0 ≡ idle → leb (length t) s.at ≡ over →
       replayed s.line s.noise.line s.device
@@ -71,7 +90,7 @@ module _ (period : ℕ) (t : List ℕ) (pos : 0 < period) (s : Lines) where
       (going (λ passed now. scheduled period passed now (drop s.at t)) period (since_of period s) s.device.clock (under_way s)))
       ≡ told period t pos
       (cond idle (cond over (turned s Ended) (record_on period s (parsed (drop s.at t))))
-      (event_or_stop period s (under_way s) 0 (stops s.device.clock (under_way s))))
+      (event_or_stop period s (under_way s) 0 (stop_at s.device.clock (under_way s))))
   turn_by true true idle over =
       let none : length (drop s.at t) ≡ 0 = simp length-drop (omega (arith, leb-true (length t) s.at over)) in
       ap (replayed s.line s.noise.line s.device) (none_left period (since_of period s) s.device.clock (drop s.at t) none)
@@ -122,27 +141,27 @@ module _ (period : ℕ) (t : List ℕ) (bytes : Bytes t) where
       part_left s pins rxd n (period - since_of period s) (since_of period s) h (ltb n (period - since_of period s))
   event_left s (event.Access a) k few h = few
 
-  stop_left : (s : Lines) (e : Event) (a n why : ℕ) → s.left < 2 ^ 32 → Small (Record e n) → (goes : Bool) →
-      (cond goes (event_on period (moved_to s a) e) (turned s (Stopped why))).state.left < 2 ^ 32
-  stop_left s e a n why few h true = event_left (moved_to s a) e n few h
-  stop_left s e a n why few h false = few
+  stop_left : (s : Lines) (e : Event) (n k : ℕ) (why : Option Stop) → s.left < 2 ^ 32 → Small (Record e k) →
+      (event_or_stop period s e n why).state.left < 2 ^ 32
+  stop_left s e n k None few h = event_left (moved_to s (s.at + n)) e k few h
+  stop_left s e n k (Some why) few h = few
 
   record_left : (s : Lines) (p : Parsed) → s.left < 2 ^ 32 → Small p → (record_on period s p).state.left < 2 ^ 32
   record_left s (Record e n) few h =
-      stop_left s e (s.at + n) n (stops s.device.clock e) few h (eqb (stops s.device.clock e) 0)
+      stop_left s e n n (stop_at s.device.clock e) few h
   record_left s Unknown few h = few
   record_left s Cut few h = few
 
   turn_left_by : (s : Lines) (idle over : Bool) → s.left < 2 ^ 32 →
       (cond idle (cond over (turned s Ended) (record_on period s (parsed (drop s.at t))))
-      (event_or_stop period s (under_way s) 0 (stops s.device.clock (under_way s)))).state.left
+      (event_or_stop period s (under_way s) 0 (stop_at s.device.clock (under_way s)))).state.left
       < 2 ^ 32
   turn_left_by s true true few = few
   turn_left_by s true false few =
       record_left s (parsed (drop s.at t)) few
       (small (drop s.at t) (λ i. subst (λ (b : ℕ). b < 256) (sym (get_or-drop s.at t i 0)) (bytes (s.at + i))))
   turn_left_by s false over few =
-      stop_left s (under_way s) (s.at + 0) 0 (stops s.device.clock (under_way s)) few few (eqb (stops s.device.clock (under_way s)) 0)
+      stop_left s (under_way s) 0 0 (stop_at s.device.clock (under_way s)) few few
 
   pub turn_left : (s : Lines) → s.left < 2 ^ 32 → (turn period t s).state.left < 2 ^ 32
   unfolding turn

@@ -1,7 +1,7 @@
 -- Document 02, L8: the library's state, and a call, which goes on to the next line, drop, stop or end.
-use Rattle.std.specs.Prelude.{◌≡◌, Bool, true, false, cond, ◌||◌, List, ◌++◌, ℕ, zero, suc, ◌+◌, ◌-◌, ◌*◌, ◌%◌, ◌^◌, eqb, ltb, leb, length, take, drop}
+use Rattle.std.specs.Prelude.{◌≡◌, Bool, true, false, cond, Option, Some, None, ◌||◌, List, ◌++◌, ℕ, zero, suc, ◌+◌, ◌-◌, ◌*◌, ◌%◌, ◌^◌, eqb, ltb, leb, length, take, drop}
 use Rattle.qsm.specs.model.State.{reset_module}
-use Rattle.qsm.specs.model.Event.{does}
+use Rattle.qsm.specs.model.Event.{clock_limit, does}
 use Rattle.qsm.specs.declared.event.Access.{Access}
 use Rattle.qsm.specs.declared.event.Event.{Event}
 use Rattle.qsm.specs.declared.event.Event.TheVariants.{Reset, Hold}
@@ -10,7 +10,7 @@ use Rattle.trace.specs.Trace.{parsed}
 use Rattle.trace.specs.declared.Parsed.{Parsed}
 use Rattle.trace.specs.declared.Parsed.TheVariants.{Record, Unknown, Cut}
 use Rattle.tool_lines.specs.Poll.{polled}
-use Rattle.tool_lines.specs.Schedule.{stops}
+use Rattle.tool_lines.specs.Schedule.{reaches}
 use Rattle.tool_lines.specs.Gather.{most, forgotten, shown}
 use Rattle.tool_lines.specs.Replay.{first_line}
 use Rattle.tool_lines.specs.Noise.{silent, figure_of, heard, unheard}
@@ -18,6 +18,9 @@ use Rattle.tool_lines.specs.declared.line.Line.{Line}
 use Rattle.tool_lines.specs.declared.line.Gathered.{Gathered}
 use Rattle.tool_lines.specs.declared.line.Outcome.{Outcome}
 use Rattle.tool_lines.specs.declared.line.Outcome.TheVariants.{Nothing, Handed, Dropped, Stopped, Ended, Refused}
+use Rattle.tool_lines.specs.declared.stop.Stop.{Stop}
+use Rattle.tool_lines.specs.declared.stop.Stop.TheVariants as stop
+use Rattle.tool_lines.specs.declared.stop.Refusal.TheVariants.{Period, Room}
 use Rattle.tool_lines.specs.declared.noise.Noises.{Noises}
 use Rattle.tool_lines.specs.declared.poll.Polled.{Polled}
 use Rattle.tool_lines.specs.declared.Lines.{Lines}
@@ -118,6 +121,12 @@ event_on period s Reset = turned (restarted s) Nothing
 event_on period s (Hold pins rxd n) = hold_on period s pins rxd n
 event_on period s (event.Access a) = turned (accessed s a) Nothing
 
+-- Why an event stops the replay, before it; of a hold before any of its clocks. (Its number is `stops`.)
+abbrev pub stop_at : ℕ → Event → Option Stop
+stop_at clock Reset = None
+stop_at clock (Hold pins rxd n) = cond (ltb clock_limit (clock + n)) (Some stop.ClockLimit) None
+stop_at clock (event.Access a) = cond (reaches a) (Some stop.Access) None
+
 -- How far a record takes the place in the trace.
 abbrev pub size_of : Parsed → ℕ
 size_of (Record e n) = n
@@ -125,14 +134,15 @@ size_of Unknown = 0
 size_of Cut = 0
 
 -- An event whose record has so many bytes, unless it stops the replay before it.
-abbrev pub event_or_stop : ℕ → Lines → Event → ℕ → ℕ → Turned
-event_or_stop period s e n why = cond (eqb why 0) (event_on period (moved_to s (s.at + n)) e) (turned s (Stopped why))
+abbrev pub event_or_stop : ℕ → Lines → Event → ℕ → Option Stop → Turned
+event_or_stop period s e n None = event_on period (moved_to s (s.at + n)) e
+event_or_stop period s e n (Some why) = turned s (Stopped why)
 
 -- The record where the trace stands.
 abbrev pub record_on : ℕ → Lines → Parsed → Turned
-record_on period s (Record e n) = event_or_stop period s e n (stops s.device.clock e)
-record_on period s Unknown = turned s (Stopped 5)
-record_on period s Cut = turned s (Stopped 6)
+record_on period s (Record e n) = event_or_stop period s e n (stop_at s.device.clock e)
+record_on period s Unknown = turned s (Stopped stop.UnknownKind)
+record_on period s Cut = turned s (Stopped stop.CutRecord)
 
 -- The hold under way.
 abbrev pub under_way : Lines → Event
@@ -143,7 +153,7 @@ unfoldable pub turn : ℕ → List ℕ → Lines → Turned
 turn period t s =
     cond (eqb s.left 0)
     (cond (leb (length t) s.at) (turned s Ended) (record_on period s (parsed (drop s.at t))))
-    (event_or_stop period s (under_way s) 0 (stops s.device.clock (under_way s)))
+    (event_or_stop period s (under_way s) 0 (stop_at s.device.clock (under_way s)))
 
 abbrev pub nothing : Outcome → Bool
 nothing Nothing = true
@@ -171,8 +181,8 @@ go_on period t s = go_for (suc (turns_left t s)) period t s
 -- The period is 1 to 65,535, else refusal 1; then a line buffer under 128 bytes is refusal 7. Either leaves the state as it is.
 abbrev pub called : ℕ → List ℕ → ℕ → Lines → Turned
 called period t room s =
-    cond (eqb period 0 || ltb 65535 period) (turned s (Refused 1))
-    (cond (ltb room most) (turned s (Refused 7)) (go_on period t s))
+    cond (eqb period 0 || ltb 65535 period) (turned s (Refused Period))
+    (cond (ltb room most) (turned s (Refused Room)) (go_on period t s))
 
 -- The lent buffer afterwards: a line's characters at its start and the rest as it was; otherwise unchanged.
 abbrev pub handed_in : Line → Outcome → List ℕ → List ℕ

@@ -7,6 +7,7 @@ use Rattle.tool_lines.specs.Gather.{Report, newline, gather, reported}
 use Rattle.tool_lines.specs.Replay.{notices, lines}
 use Rattle.tool_lines.specs.Noise.{Heard, was_reset, delivered, silent, hears, noises, line_noises}
 use Rattle.tool_lines.specs.Call.{started, since_of, under_way, go_on}
+use Rattle.tool_lines.specs.Stop.{number_of, refusal_of}
 use Rattle.tool_lines.specs.declared.line.Line.{Line}
 use Rattle.tool_lines.specs.declared.line.Outcome.{Outcome}
 use Rattle.tool_lines.specs.declared.line.Outcome.TheVariants.{Nothing, Handed, Dropped, Stopped, Ended, Refused}
@@ -40,9 +41,9 @@ telling s (Handed number n) rest =
     record { reports = reported s.line (Handed number n) ++ rest.reports; noises = s.noise.last ∷ rest.noises; stop = rest.stop }
 telling s (Dropped number cause) rest =
     record { reports = reported s.line (Dropped number cause) ++ rest.reports; noises = s.noise.last ∷ rest.noises; stop = rest.stop }
-telling s (Stopped why) rest = record { reports = []; noises = []; stop = why }
+telling s (Stopped why) rest = record { reports = []; noises = []; stop = number_of why }
 telling s Ended rest = record { reports = []; noises = []; stop = 0 }
-telling s (Refused why) rest = record { reports = []; noises = []; stop = why }
+telling s (Refused why) rest = record { reports = []; noises = []; stop = refusal_of why }
 
 -- At most so many calls, each from the state that the one before it left.
 unfoldable pub over_and_over : ℕ → ℕ → List ℕ → Lines → Replayed

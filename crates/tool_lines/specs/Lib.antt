@@ -1,5 +1,6 @@
 pub mod Poll
 pub mod Schedule
+pub mod Stop
 pub mod Gather
 pub mod Replay
 pub mod Noise

@@ -5,6 +5,8 @@ use Rattle.tool_lines.specs.Call.{started, turned, moved_to, nothing, go_on}
 use Rattle.tool_lines.specs.Laws.{Bytes}
 use Rattle.tool_lines.specs.declared.line.Outcome.{Outcome}
 use Rattle.tool_lines.specs.declared.line.Outcome.TheVariants.{Nothing, Handed, Dropped, Stopped, Ended, Refused}
+use Rattle.tool_lines.specs.Stop.{number_of}
+use Rattle.tool_lines.specs.declared.stop.Stop.TheVariants.{CutRecord}
 use Rattle.tool_lines.specs.declared.Lines.{Lines}
 use Rattle.tool_lines.specs.declared.Turned.{Turned}
 
@@ -13,7 +15,7 @@ abbrev pub wants : Outcome → Bool
 wants Nothing = false
 wants (Handed number n) = false
 wants (Dropped number cause) = false
-wants (Stopped why) = eqb why 6
+wants (Stopped why) = eqb (number_of why) 6
 wants Ended = true
 wants (Refused why) = false
 
@@ -74,4 +76,4 @@ InPieces =
 -- A hold that a piece cuts after two of its five bytes is not refused there, and is at the end of the trace.
 pub record Cuts : Type 0 where
   pub waits : (waiting false (go_on 1000 (2 ∷ 0 ∷ []) started)).outcome ≡ Nothing
-  pub stops : (waiting true (go_on 1000 (2 ∷ 0 ∷ []) started)).outcome ≡ Stopped 6
+  pub stops : (waiting true (go_on 1000 (2 ∷ 0 ∷ []) started)).outcome ≡ Stopped CutRecord

@@ -11,12 +11,14 @@ pub mod line;
 pub mod noise;
 pub mod piece;
 pub mod poll;
+pub mod stop;
 mod turn;
 
 use line::{Line, MOST, Outcome};
 use noise::{Noise, Noises};
 use qsm::state::Module;
 use std::num::NonZeroU16;
+use stop::Refusal;
 
 // Where a replay stands: the place in the trace, the clocks left of the hold under way, the clocks since the last poll, the hold's levels, the line
 // being gathered, the noise figures, and the module.
@@ -119,10 +121,10 @@ pub fn go_on(s: Lines, trace: &[u8], period: u32, line: &mut [u8]) -> Turned
     ensures { Calls (called period trace.now (length line.old) s) line.old result line.new }
 {
     let Some(period) = period_of(period) else {
-        return s.turned(Outcome::Refused(1));
+        return s.turned(Outcome::Refused(Refusal::Period));
     };
     if line.len() < 128 {
-        return s.turned(Outcome::Refused(7));
+        return s.turned(Outcome::Refused(Refusal::Room));
     }
     let r = advance(s, trace, period);
     let state = r.state;

@@ -3,6 +3,8 @@ ghost use Rattle.std.specs.Prelude.{◌≡◌, cond, min};
 ghost use Rattle.tool_lines.specs.Gather.{most, number_of, or_0, damage, caused, typed, forgotten, following, goes_on, ended, put, touched, shown};
 ghost use Rattle.tool_lines.specs.declared.line.Outcome.TheVariants as told;
 
+use crate::stop::{Refusal, Stop};
+
 // The line being gathered: its number, from 0 over all that ended, the first cause to drop it, or 0, and its characters: the first `count`.
 #[repr(C)]
 #[derive(Clone, Copy)]
@@ -13,16 +15,16 @@ pub struct Line {
     pub characters: [u8; 128],
 }
 
-// What there is to tell: nothing; a line's number and how many characters it has; a dropped line's number and cause; the refusal that stopped
-// the replay; the end of the trace; the refusal of the call.
+// What there is to tell: nothing; a line's number and how many characters it has; a dropped line's number and cause; why the replay
+// stopped; the end of the trace; why the call is refused.
 #[derive(Clone, Copy)]
 pub enum Outcome {
     Nothing,
     Handed(u64, u8),
     Dropped(u64, u8),
-    Stopped(u8),
+    Stopped(Stop),
     Ended,
-    Refused(u8),
+    Refused(Refusal),
 }
 
 // The causes, in their order on one word.

@@ -5,21 +5,16 @@ ghost use Rattle.tool_lines.specs.Pieces.{wants, waiting, rebased};
 ghost use Rattle.tool_lines.specs.declared.line.Outcome.TheVariants as told;
 
 use crate::line::Outcome;
+use crate::stop::Stop;
 use crate::{Lines, Turned, go_on};
-
-const CUT: u8 = 6;
 
 // Whether more bytes could change what a call told.
 fn wants(o: Outcome) -> bool
     ensures { result ≡ wants o }
 {
     match o {
-        Outcome::Nothing => false,
-        Outcome::Handed(_, _) => false,
-        Outcome::Dropped(_, _) => false,
-        Outcome::Stopped(why) => why == CUT,
-        Outcome::Ended => true,
-        Outcome::Refused(_) => false,
+        Outcome::Stopped(Stop::CutRecord) | Outcome::Ended => true,
+        _ => false,
     }
 }
 

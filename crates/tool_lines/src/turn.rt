@@ -1,12 +1,13 @@
 // A turn of the replay: the hold under way up to the next poll, or the next record.
 ghost use Rattle.std.specs.Prelude.{◌≡◌, ◌+◌, ◌^◌, ◌<◌};
 ghost use Rattle.std.specs.Int.NonZero.{non_zero_u16_get};
-ghost use Rattle.tool_lines.specs.Schedule.{reaches, stops};
-ghost use Rattle.tool_lines.specs.Call.{turned, moved_to, held_for, gathered, poll_now, hold_on, restarted, accessed, event_on, event_or_stop, size_of, record_on, turn};
+ghost use Rattle.tool_lines.specs.Schedule.{reaches};
+ghost use Rattle.tool_lines.specs.Call.{stop_at, turned, moved_to, held_for, gathered, poll_now, hold_on, restarted, accessed, event_on, event_or_stop, size_of, record_on, turn};
 
 use crate::line::{Gathered, Outcome};
 use crate::noise::Noises;
 use crate::poll::{Polled, poll};
+use crate::stop::Stop;
 use crate::{Lines, Turned};
 use qsm::decision::{fits, shaped};
 use qsm::event::{Access, Event};
@@ -32,14 +33,14 @@ fn reaches(a: Access) -> bool
     }
 }
 
-// The refusal that an event stops the replay with, before it, or 0.
-fn stops(device: Module, e: Event) -> u8
-    ensures { result ≡ stops device.clock e }
+// Why an event stops the replay, before it.
+fn stop_at(device: Module, e: Event) -> Option<Stop>
+    ensures { result ≡ stop_at device.clock e }
 {
     match e {
-        Event::Reset => 0,
-        Event::Hold(_, _, n) => steps::choose(device.passes(n), 10, 0),
-        Event::Access(a) => steps::choose(reaches(a), 3, 0),
+        Event::Hold(_, _, n) if device.passes(n) => Some(Stop::ClockLimit),
+        Event::Access(a) if reaches(a) => Some(Stop::Access),
+        _ => None,
     }
 }
 
@@ -155,14 +156,13 @@ impl Lines {
     }
 
     // An event whose record has so many bytes, unless it stops the replay.
-    fn event_or_stop(self, period: NonZeroU16, e: Event, n: usize, why: u8) -> Turned
+    fn event_or_stop(self, period: NonZeroU16, e: Event, n: usize, why: Option<Stop>) -> Turned
         requires { self.at + n < 2 ^ 64 }
         ensures { result ≡ event_or_stop (non_zero_u16_get period) self e n why }
     {
-        if why == 0 {
-            self.moved_to(self.at + n).event_on(period, e)
-        } else {
-            self.turned(Outcome::Stopped(why))
+        match why {
+            Some(why) => self.turned(Outcome::Stopped(why)),
+            None => self.moved_to(self.at + n).event_on(period, e),
         }
     }
 
@@ -173,10 +173,10 @@ impl Lines {
         match p {
             Parsed::Record(e, n) => {
                 let device = self.device;
-                self.event_or_stop(period, e, n, stops(device, e))
+                self.event_or_stop(period, e, n, stop_at(device, e))
             }
-            Parsed::Unknown => self.turned(Outcome::Stopped(5)),
-            Parsed::Cut => self.turned(Outcome::Stopped(6)),
+            Parsed::Unknown => self.turned(Outcome::Stopped(Stop::UnknownKind)),
+            Parsed::Cut => self.turned(Outcome::Stopped(Stop::CutRecord)),
         }
     }
 
@@ -187,7 +187,7 @@ impl Lines {
         if self.left != 0 {
             let device = self.device;
             let e = Event::Hold(self.pins, self.rxd, self.left);
-            return self.event_or_stop(period, e, 0, stops(device, e));
+            return self.event_or_stop(period, e, 0, stop_at(device, e));
         }
         let at = self.at;
         if trace.len() <= at {

@@ -9,7 +9,7 @@ use Rattle.tool_lines.proofs.Lines.turn.Goals as goal
 pub returns-then-self-ne0 : goal.returns-then-self-ne0
 unfolding turn
 returns-then-self-ne0 c =
-    rw (c.event_or_stop.ensures, c.stops.ensures, ne_eqb _ _ c.if-self-ne0.true)
+    rw (c.event_or_stop.ensures, c.stop_at.ensures, ne_eqb _ _ c.if-self-ne0.true)
 
 pub returns-then-trace-at : goal.returns-then-trace-at
 unfolding turn
