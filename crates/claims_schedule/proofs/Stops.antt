@@ -136,6 +136,7 @@ call_refusals period t room s =
     record {
       is_1 = refused_1 period t room s;
       is_7 = λ some most short. rw (ne_eqb period 0 (λ z. omega arith), le-ltb 65535 period most, lt-ltb room 128 short);
+      numbers = (refl, refl);
       ends = λ some most long idle.
           rw (ne_eqb period 0 (λ z. omega arith), le-ltb 65535 period most, le-ltb room 128 long) (ended period s idle);
     }

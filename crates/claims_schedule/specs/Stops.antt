@@ -1,6 +1,7 @@
 -- Document 02, L8: which accesses of a trace stop a replay before them with 3, by width and offset; and what a call is refused for.
 use Rattle.std.specs.Prelude.{◌≡◌, ◌⊎◌, Bool, true, false, cond, ◌&&◌, ◌||◌, List, [], ◌∷◌, ℕ, ◌+◌, ◌-◌, ◌*◌, ◌%◌, ◌^◌, ◌<◌, ◌≤◌, eqb, ltb, leb, length, drop}
 use Rattle.tool_lines.specs.Call.{turned, turn, called}
+use Rattle.tool_lines.specs.Stop.{refusal_of}
 use Rattle.tool_lines.specs.declared.line.Outcome.{Outcome}
 use Rattle.tool_lines.specs.declared.line.Outcome.TheVariants.{Nothing, Stopped, Ended, Refused}
 use Rattle.tool_lines.specs.declared.stop.Stop.TheVariants as stop
@@ -80,6 +81,8 @@ Others = (period : ℕ) (t : List ℕ) (s : Lines) (rest : List ℕ) → StaysBe
 pub record Refusals (period : ℕ) (t : List ℕ) (room : ℕ) (s : Lines) : Type 0 where
   pub is_1 : (period ≡ 0) ⊎ (65535 < period) → called period t room s ≡ turned s (Refused Period)
   pub is_7 : 0 < period → period ≤ 65535 → room < 128 → called period t room s ≡ turned s (Refused Room)
+  -- These are the numbers that a host is told.
+  pub numbers : (refusal_of Period ≡ 1) × (refusal_of Room ≡ 7)
   -- At a trace's end a call that is not refused ends.
   pub ends : 0 < period → period ≤ 65535 → 128 ≤ room → s.left ≡ 0 → called period [] room s ≡ turned s Ended
 

@@ -4,12 +4,12 @@ use mathlib.Core.Bool.{Bool, true, false}
 use mathlib.Core.List.{List, [], ◌++◌, append-nil, append_assoc}
 use Prim.Native.Nat.{ℕ, ◌+◌, ◌-◌}
 use native.Mathlib.Omega.{arith}
-use lib.ListN.{length, take, drop, length-append, take-append-drop}
+use lib.ListN.{length, take, drop, length-append, drop_of_length-le, take-append-drop}
 use lib.Seq.{take_at, length-take-le}
 use borrow.Rule.Slice.PartMut.{mid_of, post_of, put_mid, same_len_mid, mid_len}
 use Rattle.console.specs.Output.{Hands, Gives, Fits, put_behind, after, waiting}
 use Rattle.console.specs.declared.output.Out.{Out}
-use Rattle.std.specs.Prelude.{Result, Ok, Err, ⊤}
+use Rattle.std.specs.Prelude.{Result, Ok, Err}
 
 never : {A : Type 0} (b : Bool) → b ≡ true → b ≡ false → A
 never b bad good = let z : ◌≡◌ {A = ℕ} 0 1 = cc in absurd (omega arith)
@@ -28,14 +28,14 @@ refused o buf text bad =
     }
 
 -- All that waits, and a text behind it, handed to the system.
-pub went : (o : Out) (buf text bytes : List ℕ) (h : Result ⊤ ℕ) → o.failed ≡ false → waiting o buf ++ text ≡ bytes → Hands bytes h
+pub went : (o : Out) (buf text bytes : List ℕ) (h : Result ℕ ℕ) → o.failed ≡ false → waiting o buf ++ text ≡ bytes → Hands bytes h
     → Gives o buf text (after o h) buf
-went o buf text bytes (Ok all) good is hands =
+went o buf text bytes (Ok taken) good is hands =
     record {
-      handed = bytes;
-      lost = [];
-      order = is ∙ sym (append-nil (bytes ++ []) ∙ append-nil bytes);
-      kept = λ _. refl;
+      handed = take taken bytes;
+      lost = drop taken bytes;
+      order = is ∙ rw append-nil (sym (take-append-drop taken bytes));
+      kept = λ _. drop_of_length-le bytes {i = taken} (omega (arith, hands));
       stopped = λ bad. never o.failed bad good;
       same = refl;
       room = refl;

@@ -1,15 +1,15 @@
 -- An output: what was given to it is what the system took of it, then what waits, then, once a write has failed, what is lost.
-use Rattle.std.specs.Prelude.{◌≡◌, Bool, true, false, List, [], ◌++◌, ℕ, ◌+◌, ◌≤◌, length, take, Result, ⊤, IfErr, is_err}
+use Rattle.std.specs.Prelude.{◌≡◌, Bool, true, false, List, [], ◌++◌, ℕ, ◌+◌, ◌≤◌, length, take, Result, MatchResult, is_err}
 use Rattle.console.specs.declared.output.Out.{Out}
 
 -- The system took the first of the bytes handed to it, and all of them unless a write failed.
-abbrev pub Hands : List ℕ → Result ⊤ ℕ → Type 0
-Hands bytes h = IfErr h (λ taken. taken ≤ length bytes)
+abbrev pub Hands : List ℕ → Result ℕ ℕ → Type 0
+Hands bytes h = MatchResult h (λ taken. taken ≡ length bytes) (λ taken. taken ≤ length bytes)
 
 abbrev pub fresh : Bool → Out
 fresh eager = record { eager = eager; waits = 0; failed = false }
 
-abbrev pub after : Out → Result ⊤ ℕ → Out
+abbrev pub after : Out → Result ℕ ℕ → Out
 after o h = record { eager = o.eager; waits = 0; failed = is_err h }
 
 -- The bytes of the buffer that wait to be handed on.

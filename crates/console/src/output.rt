@@ -19,14 +19,14 @@ pub struct Out {
     pub failed: bool,
 }
 
-// Writes until all is taken or a write fails; else how many bytes were taken. A call that a signal interrupts has taken nothing and failed in nothing.
-fn hand(to: &Sink, bytes: &[u8]) -> Result<(), usize>
+// Writes until all is taken or a write fails; how many bytes were taken. A call that a signal interrupts has taken nothing and failed in nothing.
+fn hand(to: &Sink, bytes: &[u8]) -> Result<usize, usize>
     ensures { Hands bytes.now result }
 {
     let mut at = 0;
     for _ in 0..u64::MAX {
         if at == bytes.len() {
-            return Ok(());
+            return Ok(at);
         }
         match to.write_some(&bytes[at..]) {
             Ok(0) => return Err(at),
@@ -42,7 +42,7 @@ fn hand(to: &Sink, bytes: &[u8]) -> Result<(), usize>
 }
 
 impl Out {
-    fn after(mut self, handed: Result<(), usize>) -> Out
+    fn after(mut self, handed: Result<usize, usize>) -> Out
         ensures { result ≡ after self handed }
     {
         self.waits = 0;

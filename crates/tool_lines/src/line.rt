@@ -76,11 +76,11 @@ fn damage(status: u32) -> Option<Cause>
 
 impl Line {
     // Ruled out: a later cause over the first one; a cause left out.
-    pub fn caused(mut self, why: Cause) -> Line
-        ensures { result ≡ caused self (number_of why) }
+    pub fn caused(mut self, why: u8) -> Line
+        ensures { result ≡ caused self why }
     {
         if self.cause == 0 {
-            self.cause = u8::from(why);
+            self.cause = why;
         }
         self
     }
@@ -89,7 +89,7 @@ impl Line {
         ensures { result ≡ caused self (damage status) }
     {
         match damage(status) {
-            Some(why) => self.caused(why),
+            Some(why) => self.caused(u8::from(why)),
             None => self,
         }
     }
@@ -97,7 +97,11 @@ impl Line {
     fn caused_if(self, some: bool, why: Cause) -> Line
         ensures { result ≡ cond some (caused self (number_of why)) self }
     {
-        if some { self.caused(why) } else { self }
+        if some {
+            self.caused(u8::from(why))
+        } else {
+            self
+        }
     }
 
     fn typed(mut self, c: u8) -> Line
@@ -109,7 +113,7 @@ impl Line {
             self.count = at + 1;
             return self;
         }
-        self.caused(Cause::Length)
+        self.caused(u8::from(Cause::Length))
     }
 
     // Ruled out: a number that a reset skips; the touch of an overrun kept.

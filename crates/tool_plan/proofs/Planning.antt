@@ -7,7 +7,7 @@ use Rattle.std.specs.Prelude.{Some, None}
 use Rattle.qsm.proofs.Booleans.{on}
 use Rattle.tool_plan.specs.Check.{accepts}
 use Rattle.tool_plan.specs.Accepted.{Accepted}
-use Rattle.tool_plan.specs.Quickest.{proposal, if_accepted, planned, changed_at, changed}
+use Rattle.tool_plan.specs.Quickest.{proposal, if_accepted, planned, changed_at, changed, answered}
 use Rattle.tool_plan.specs.Laws.{Sound, Complete, Refuses, Least, AnyWindow, Revises}
 use Rattle.tool_plan.specs.declared.SetPoints.{SetPoints}
 use Rattle.tool_plan.specs.declared.Plan.{Plan}
@@ -51,9 +51,12 @@ revises s window p spcr0 spcr1 = (
 pub complete : Complete
 complete s window p h = rw (gives s window p h)
 
-pub refuses : Refuses
-refuses s window none =
+not_given : (s : SetPoints) (window : ℕ) → ((p : Plan) → accepts s window p ≡ true → ⊥) → planned s window ≡ None
+not_given s window none =
     on (accepts s window (proposal s)) (λ t. absurd (none (proposal s) t)) (λ f. refused s window (proposal s) f)
+
+pub refuses : Refuses
+refuses s window none = let is : planned s window ≡ None = not_given s window none in (is, ap answered is)
 
 pub least : Least
 least s window p h = rw (gives s window p h) (clock_not_above s window p ((means s window p).0 h))
@@ -81,7 +84,7 @@ in_window s window later t =
             clock = a.clock;
             within = enough;
           }))),
-      (λ short. refuses s later
+      (λ short. not_given s later
           (λ p g. let b : Accepted s later p = (means s later p).0 g in omega (arith, b.within, clock_not_above s later p b))),
     )
 

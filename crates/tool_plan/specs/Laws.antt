@@ -1,7 +1,7 @@
 -- Document 02, L10: what is shown of the planner.
 use Rattle.std.specs.Prelude.{◌≡◌, true, Some, None, IsSome, MatchOption, ℕ, ◌≤◌, ◌<◌}
 use Rattle.tool_plan.specs.Check.{accepts}
-use Rattle.tool_plan.specs.Quickest.{planned, changed_at, revised}
+use Rattle.tool_plan.specs.Quickest.{planned, changed_at, revised, answered, no_plan}
 use Rattle.tool_plan.specs.declared.SetPoints.{SetPoints}
 use Rattle.tool_plan.specs.declared.Plan.{Plan}
 
@@ -13,10 +13,11 @@ Sound = (s : SetPoints) (window : ℕ) (p : Plan) → planned s window ≡ Some 
 abbrev pub Complete : Type 0
 Complete = (s : SetPoints) (window : ℕ) (p : Plan) → accepts s window p ≡ true → IsSome (planned s window)
 
--- and else none.
+-- and else none, which a host is told as refusal 11 and zeros.
 abbrev pub Refuses : Type 0
 Refuses =
-    (s : SetPoints) (window : ℕ) → ((p : Plan) → accepts s window p ≡ true → ⊥) → planned s window ≡ None
+    (s : SetPoints) (window : ℕ) → ((p : Plan) → accepts s window p ≡ true → ⊥) →
+    (planned s window ≡ None) × (answered (planned s window) ≡ no_plan)
 
 -- Its clock is the least of all accepted plans'.
 abbrev pub Least : Type 0
