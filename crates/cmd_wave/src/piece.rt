@@ -24,6 +24,7 @@ fn over(o: Result<Option<Step>, Stop>) -> bool
 }
 
 // Ruled out: a change that is not drawn; the text of the change before.
+#[tactic(auto, using(console::proofs::Lines::nothing))]
 fn put_step(hz: u32, to: &Sink, out: Out, buf: &mut [u8], told: Result<Option<Step>, Stop>) -> Out
     ensures { Gives out buf.old (step_told hz told) result buf.new }
 {
