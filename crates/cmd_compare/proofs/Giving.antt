@@ -1,16 +1,13 @@
 -- Lines of text given to an output one after the other. Assumes nothing.
 use mathlib.Core.Path.{◌≡◌, refl, ap, subst, ◌∙◌}
-use mathlib.Core.Bool.{Bool, true, false, cond}
 use mathlib.Core.List.{List, [], ◌∷◌, ◌++◌, append-nil, append_assoc}
-use Prim.Native.Nat.{ℕ, ◌+◌, ◌*◌, ◌/◌, ◌≤◌}
+use Prim.Native.Nat.{ℕ, ◌+◌, ◌*◌}
 use native.Mathlib.Numerals.{add-one}
 use native.Mathlib.Omega.{arith}
-use lib.ListN.{length, take, get_or}
-use lib.Seq.{take_at}
+use lib.ListN.{get_or}
 use Rattle.answers.specs.Field.{in_their_order}
 use Rattle.answers.specs.declared.Field.{Field}
 use Rattle.text.specs.Line.{Shows, empty}
-use Rattle.text.specs.declared.line.Line.{Line}
 use Rattle.text.specs.declared.log.Logged.{Logged}
 use Rattle.console.specs.Output.{Gives}
 use Rattle.console.specs.declared.output.Out.{Out}

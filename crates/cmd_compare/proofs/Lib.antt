@@ -1,4 +1,3 @@
 pub mod Giving
-pub mod Placing
 pub mod Stepping
 pub mod Whole

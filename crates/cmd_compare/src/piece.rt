@@ -58,6 +58,7 @@ pub struct Pieced {
 }
 
 // The first answer of a piece that does not begin with the kind, behind so many bytes of its log.
+#[tactic(auto, unfolding(crate::specs::Piece::named))]
 fn named(which: Log, kind: u8, before: u64, log: &[u8]) -> Other
     requires { mixed kind log.now ≡ true }
     ensures { result ≡ named which kind before log.now }
@@ -74,6 +75,7 @@ fn named(which: Log, kind: u8, before: u64, log: &[u8]) -> Other
 }
 
 // That of the first log, or else of the second.
+#[tactic(auto, unfolding(crate::specs::Piece::first_or_second))]
 fn first_or_second(kind: u8, t: Tally, a: &[u8], b: &[u8]) -> Other
     requires { mixed kind a.now || mixed kind b.now ≡ true }
     ensures { result ≡ first_or_second kind t a.now b.now }
@@ -106,6 +108,7 @@ fn ended(over: bool, cut: bool) -> End
 }
 
 // What the comparison of two pieces makes of the tally.
+#[tactic(auto, unfolding(crate::specs::Piece::followed))]
 fn followed(t: Tally, kind: u8, a: usize, b: usize, r: Compared) -> Pieced
     ensures { result ≡ followed t kind a b r }
 {

@@ -30,6 +30,7 @@ fn differs(sum: u64, f: Field) -> bool
     }
 }
 
+#[tactic(auto, using(console::proofs::Lines::given_if, console::proofs::Lines::given_not), unfolding(crate::specs::Lines::field_line))]
 fn put_field(
     to: &Sink,
     out: Out,
@@ -48,6 +49,7 @@ fn put_field(
     out
 }
 
+#[tactic(auto, using(crate::proofs::Giving::four))]
 fn put_first_half(
     to: &Sink,
     out: Out,
@@ -65,6 +67,7 @@ fn put_first_half(
     put_field(to, value, buf, n, sum, Field::Levels, x, y)
 }
 
+#[tactic(auto, using(crate::proofs::Giving::four))]
 fn put_second_half(
     to: &Sink,
     out: Out,
@@ -83,6 +86,7 @@ fn put_second_half(
 }
 
 // Answer n, x in the first log and y in the second.
+#[tactic(auto, using(crate::proofs::Giving::halves))]
 fn put_answer(to: &Sink, out: Out, buf: &mut [u8], n: u64, sum: u64, x: Logged, y: Logged) -> Out
     ensures { Gives out buf.old (answer_lines n sum x y in_their_order) result buf.new }
 {
@@ -131,6 +135,7 @@ fn put_pair(
 
 // The answers that a list of so many names.
 // Ruled out: a line left out, written twice or out of order; the answers of the two logs exchanged; a field that does not differ.
+#[tactic(auto, using(crate::proofs::Giving::starts, crate::proofs::Giving::goes))]
 pub fn put_list(
     to: &Sink,
     out: Out,

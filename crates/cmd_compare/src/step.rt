@@ -29,6 +29,7 @@ fn stopped(failed: bool, end: End) -> End
 }
 
 // Ruled out: a difference shown in the pass that only counts; a line behind a failed write; the tally of another piece.
+#[tactic(auto, using(crate::proofs::Stepping::stepped))]
 pub fn step<'a>(
     shows: bool,
     to: &Sink,

@@ -36,6 +36,7 @@ fn line_of_other(o: Other) -> Line
 
 // The first line; none where the logs could not be read.
 // Ruled out: equal for logs of which one has more; a refusal that reads as a difference.
+#[tactic(auto, using(crate::proofs::Giving::none_shown), unfolding(crate::specs::Verdict::verdict_text))]
 pub fn verdict_line(t: Tally, end: End) -> Line
     ensures { Shows result (verdict_text t end) }
 {

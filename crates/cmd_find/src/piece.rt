@@ -41,6 +41,7 @@ fn at_cut(ended: bool) -> What
 }
 
 // What stands where a walk has come: at the record's number, or before it where no record can be passed.
+#[tactic(auto, using(trace::proofs::Playing::record_within))]
 fn standing(there: bool, rest: &[u8], ended: bool) -> What
     ensures { result ≡ standing there (byte_at rest.now 0) ended (parsed rest.now) }
 {
@@ -54,6 +55,7 @@ fn standing(there: bool, rest: &[u8], ended: bool) -> What
 
 // Walks through a piece up to a record, from the position that the piece before it left.
 // Ruled out: the record before or after it; a record that is cut found; one missed because a piece cuts it.
+#[tactic(auto, using(crate::proofs::Pieces::read_within, crate::proofs::Pieces::looks))]
 pub fn look(from: Position, number: u64, bytes: &[u8], ended: bool) -> Looked
     ensures { result ≡ looked from number bytes.now ended }
 {

@@ -9,6 +9,7 @@ use tool_index::stored::mark_bytes;
 
 // Gives the first so many marks to an output, or all that there are.
 // Ruled out: a mark left out or written twice; resets for the place.
+#[tactic(auto, using(crate::proofs::Filing::starts, crate::proofs::Filing::onwards))]
 pub fn put_marks(to: &Sink, out: Out, buf: &mut [u8], lent: &[u64], count: usize) -> Out
     ensures { Gives out buf.old (file_of lent.now (min count (length lent.now / 2))) result buf.new }
 {

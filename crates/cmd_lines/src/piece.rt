@@ -58,6 +58,7 @@ fn done(told: Outcome, lines: Out, words: Out) -> bool
 
 // Calls over and over, until a piece has no more to tell or a write failed.
 // Ruled out: a line left out, written twice or out of order; a line handed over that was dropped; a drop that is not said.
+#[tactic(auto, using(crate::proofs::Playing::starts, crate::proofs::Playing::onwards))]
 pub fn play(
     wanted: Wanted,
     to: &Sink,

@@ -35,6 +35,7 @@ fn drop_line(number: u64, cause: u8) -> Line
     cause_words(start, cause).put(10)
 }
 
+#[tactic(auto, using(console::proofs::Lines::line_given))]
 fn put_drop(to: &Sink, out: Out, buf: &mut [u8], number: u64, cause: u8) -> Out
     ensures { Gives out buf.old (drop_line number cause) result buf.new }
 {
@@ -42,6 +43,7 @@ fn put_drop(to: &Sink, out: Out, buf: &mut [u8], number: u64, cause: u8) -> Out
 }
 
 // The figures of a line that ended, if they are asked for.
+#[tactic(auto, using(console::proofs::Lines::line_given, console::proofs::Lines::nothing))]
 fn put_noise(wanted: bool, to: &Sink, out: Out, buf: &mut [u8], number: u64, noise: Noise) -> Out
     ensures { Gives out buf.old (noise_told wanted number noise) result buf.new }
 {
@@ -53,6 +55,7 @@ fn put_noise(wanted: bool, to: &Sink, out: Out, buf: &mut [u8], number: u64, noi
 }
 
 // A line's characters and its newline.
+#[tactic(auto, using(console::proofs::Giving::both))]
 fn put_text(to: &Sink, out: Out, buf: &mut [u8], characters: [u8; 128], n: u8) -> Out
     ensures { Gives out buf.old (take n characters ++ (10 ∷ [])) result buf.new }
 {
@@ -61,6 +64,7 @@ fn put_text(to: &Sink, out: Out, buf: &mut [u8], characters: [u8; 128], n: u8) -
 }
 
 // Ruled out: a line that was dropped; a character of the line before; a line without its end.
+#[tactic(auto, using(console::proofs::Lines::nothing))]
 pub fn put_told(to: &Sink, out: Out, buf: &mut [u8], told: Outcome, characters: [u8; 128]) -> Out
     ensures { Gives out buf.old (line_told told characters) result buf.new }
 {
@@ -90,6 +94,7 @@ fn put_dropped(
 }
 
 // Ruled out: a drop that is not said; the noise of the line under way.
+#[tactic(auto, using(console::proofs::Lines::nothing))]
 pub fn put_words(
     wanted: bool,
     to: &Sink,

@@ -38,6 +38,7 @@ fn module_line(m: Module) -> Line
     text::account::account_line(a.taken, a.lost, a.waiting)
 }
 
+#[tactic(auto, using(console::proofs::Lines::given_if, console::proofs::Lines::given_not))]
 fn put_tally(noise: bool, t: Tally, to: &Sink, out: Out, buf: &mut [u8]) -> Out
     ensures { Gives out buf.old (tally_text noise t) result buf.new }
 {
@@ -52,6 +53,7 @@ fn put_tally(noise: bool, t: Tally, to: &Sink, out: Out, buf: &mut [u8]) -> Out
     out
 }
 
+#[tactic(auto, using(console::proofs::Lines::given_if, console::proofs::Lines::given_not))]
 fn put_account(account: bool, m: Module, to: &Sink, out: Out, buf: &mut [u8]) -> Out
     ensures { Gives out buf.old (account_text account m) result buf.new }
 {
@@ -63,6 +65,7 @@ fn put_account(account: bool, m: Module, to: &Sink, out: Out, buf: &mut [u8]) ->
 
 // The tally of the words and the account of the frames, each if it is asked for.
 // Ruled out: a line that is not asked for; the tally behind the account.
+#[tactic(auto, using(console::proofs::Giving::both))]
 pub fn put_end(
     noise: bool,
     t: Tally,

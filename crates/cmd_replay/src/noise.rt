@@ -33,6 +33,7 @@ pub fn error_output(err: &Sink) -> Out {
 
 // The line of the word that comes after those of the tally: its number, from 0, is how many came before it.
 // Ruled out: a line of no word; the number of another word.
+#[tactic(auto, using(console::proofs::Lines::line_given, console::proofs::Lines::nothing))]
 fn put_arrival(tally: Tally, arrival: Option<u8>, err: &Sink, out: Out, buf: &mut [u8]) -> Out
     ensures { Gives out buf.old (arrival_text tally arrival) result buf.new }
 {

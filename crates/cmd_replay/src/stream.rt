@@ -90,6 +90,7 @@ fn read_on<R: System>(
 }
 
 // Plays what is there.
+#[tactic(auto, using(crate::proofs::Reaching::turned))]
 fn play_on(to: &Sink, t: Turned, buf: &[u8], lines: &mut [u8], room: &mut [u8]) -> Turned
     ensures { Turns t.run (length room.old) result }
 {
@@ -112,6 +113,7 @@ fn play_on(to: &Sink, t: Turned, buf: &[u8], lines: &mut [u8], room: &mut [u8]) 
 
 // Plays what is there, or reads more.
 // Ruled out: a module that is not what the bytes played leave.
+#[tactic(auto, using(crate::proofs::Reaching::still))]
 pub fn turn<R: System>(
     rt: &R,
     from: &Origin,

@@ -120,23 +120,16 @@ fn open<R: System>(rt: &R, from: usize, hz: u32, word: usize) -> Status {
     draw(rt, hz, &input.from, &name[..input.name])
 }
 
-// A clock in Hz, or 0 where a number is none.
-fn rate(n: Option<u64>) -> u32
+// A clock in Hz, from 1 on; none where a number is none.
+fn rate(n: Option<u64>) -> Option<u32>
     ensures { result ≡ rate n }
 {
-    match n {
-        Some(k) => {
-            if k < 4294967296 {
-                return k as u32;
-            }
-            0
-        }
-        None => 0,
-    }
+    let hz = u32::try_from(n?).ok()?;
+    if hz == 0 { None } else { Some(hz) }
 }
 
 // The clock that the first word names.
-fn first_word<R: System>(rt: &R, from: usize) -> u32 {
+fn first_word<R: System>(rt: &R, from: usize) -> Option<u32> {
     let mut word = io::buffer();
     let n = files::command::named_word(rt, from, 0, &mut word);
     rate(text::number::parse_number(&word[..n]))
@@ -144,11 +137,10 @@ fn first_word<R: System>(rt: &R, from: usize) -> u32 {
 
 fn start<R: System>(rt: &R, from: usize, c: Given) -> Status {
     if c.option {
-        let hz = first_word(rt, from);
-        if hz == 0 {
+        let Some(hz) = first_word(rt, from) else {
             say(b"wave", b"the clock is not 1 to 4294967295 Hz\n");
             return Status::Failed;
-        }
+        };
         return open(rt, from, hz, 1);
     }
     if c.words > 1 {

@@ -24,6 +24,7 @@ fn over(o: Result<Option<Step>, Stop>) -> bool
 }
 
 // Ruled out: a change that is not drawn; the text of the change before.
+#[tactic(auto, using(console::proofs::Lines::nothing))]
 fn put_step(hz: u32, to: &Sink, out: Out, buf: &mut [u8], told: Result<Option<Step>, Stop>) -> Out
     ensures { Gives out buf.old (step_told hz told) result buf.new }
 {
@@ -51,6 +52,7 @@ pub fn rebased(s: Waves) -> Waves
 
 // Turn after turn, until a piece has no more to draw or a write failed.
 // Ruled out: a change left out, drawn twice or out of order; one drawn behind a stop.
+#[tactic(auto, using(crate::proofs::Drawing::starts, crate::proofs::Drawing::onwards))]
 pub fn draw(hz: u32, s: Waves, to: &Sink, out: Out, buf: &mut [u8], bytes: &[u8]) -> Went
     ensures { Draws hz bytes.now s out buf.old result buf.new }
 {

@@ -84,6 +84,7 @@ pub fn flush(to: &Sink, out: Out, buf: &[u8]) -> Out
 }
 
 // A text behind what waits, where there is room for it.
+#[tactic(auto, using(crate::proofs::Giving::stores))]
 fn stored(out: Out, buf: &mut [u8], text: &[u8]) -> Out
     requires fits { Fits out buf.old text.now }
     requires failed_value { out.failed ≡ false }
@@ -121,6 +122,7 @@ fn collect(to: &Sink, out: Out, buf: &mut [u8], text: &[u8]) -> Out
 
 // Gives a text to an output.
 // Ruled out: a byte written twice, out of order or left out; a write after a failed one.
+#[tactic(auto, using(crate::proofs::Giving::refused))]
 pub fn put(to: &Sink, out: Out, buf: &mut [u8], text: &[u8]) -> Out
     ensures { Gives out buf.old text.now result buf.new }
 {

@@ -8,6 +8,7 @@ use trace::Stop;
 
 // A line that begins with the number of a refusal.
 // Ruled out: the number of another refusal.
+#[tactic(auto, using(text::proofs::Puts::puts_append))]
 pub fn numbered(why: u8) -> Line
     ensures { result ≡ puts empty (numbered why) }
 {

@@ -11,13 +11,18 @@ use files::message::{ERROR, say};
 use files::system::System;
 
 // A word that is longer than any path counts as an empty one.
-fn kind_at<R: System>(rt: &R, i: usize, flags: &[u8], valued: &[u8]) -> Kind {
+fn kind_at<R: System>(rt: &R, i: usize, flags: &[&[u8]], valued: &[&[u8]]) -> Kind {
     let mut word = io::buffer();
     let n = argument(rt, i, &mut word);
-    kind_of(&word[..n], b"-h --help --version -- ", flags, valued)
+    kind_of(
+        &word[..n],
+        &[b"-h", b"--help", b"--version", b"--"],
+        flags,
+        valued,
+    )
 }
 
-fn see<R: System>(rt: &R, from: usize, flags: &[u8], valued: &[u8]) -> Seen {
+fn see<R: System>(rt: &R, from: usize, flags: &[&[u8]], valued: &[&[u8]]) -> Seen {
     let mut seen = Seen::none();
     for i in from..count(rt) {
         seen = seen.taken(i, kind_at(rt, i, flags, valued));
@@ -39,15 +44,15 @@ fn say_no_value<R: System>(rt: &R, program: &[u8]) {
 }
 
 // The command from an argument on; from argument 0, which is no word of it, its help is asked for. It has options that stand alone and options that a value
-// follows, with a blank behind each name; so many words, at most 8; a usage and a help.
+// follows, up to 16 of each; so many words, at most 8; a usage and a help.
 // Ruled out: a command that goes on without a word that it needs, with one that it won't look at, with an option that it doesn't know, or with one that
 // waits for its value.
 pub fn read_line<R: System>(
     rt: &R,
     from: usize,
     program: &[u8],
-    flags: &[u8],
-    valued: &[u8],
+    flags: &[&[u8]],
+    valued: &[&[u8]],
     least: usize,
     most: usize,
     usage: &[u8],

@@ -1,6 +1,6 @@
 // The options of a command: what kind a word is, by the names that the command knows.
-ghost use Rattle.std.specs.Prelude.{◌≡◌, ◌<◌, length, IfSome};
-ghost use Rattle.shell.specs.Options.{blank, position, named, kind_of};
+ghost use Rattle.std.specs.Prelude.{◌≡◌};
+ghost use Rattle.shell.specs.Options.{bytes_of, place, position, named, kind_of};
 
 use files::words::{is_option, same};
 
@@ -17,30 +17,22 @@ pub enum Kind {
     Unknown,
 }
 
-// The length of the first name of a list, up to the blank behind it.
-fn blank(names: &[u8]) -> Option<usize>
-    ensures value { result ≡ blank names.now }
-    ensures within { IfSome result (λ n. n < length names.now) }
+// The number, from 0, of the first name that a word is.
+fn place(word: &[u8], names: &[&[u8]]) -> Option<usize>
+    ensures { result ≡ place word.now (bytes_of names.now) }
 {
-    names.iter().position(|b| *b == b' ')
+    names.iter().position(|name| same(word, name))
 }
 
-// The number, from 0, of the name that a word is, in a list in which a blank follows each name; none where it is none of the first 16.
+// The number, from 0, of the name that a word is; none where it is none of the first 16.
 // Ruled out: the beginning of a name taken for it; the number of another name.
-pub fn position(word: &[u8], names: &[u8]) -> Option<u8>
-    ensures { result ≡ position word.now names.now }
+pub fn position(word: &[u8], names: &[&[u8]]) -> Option<u8>
+    ensures { result ≡ position word.now (bytes_of names.now) }
 {
-    let mut rest = names;
-    for k in 0..16u8 {
-        let Some(n) = blank(rest) else {
-            return None;
-        };
-        if same(word, &rest[..n]) {
-            return Some(k);
-        }
-        rest = &rest[n + 1..];
+    match place(word, names) {
+        Some(k) if k < 16 => Some(k as u8),
+        _ => None,
     }
-    None
 }
 
 // By its number among the options of every command, among those that stand alone, and among those that a value follows.
@@ -60,8 +52,8 @@ fn named(common: Option<u8>, flag: Option<u8>, valued: Option<u8>) -> Kind
 
 // What a word is. The options of every command are -h, --help, --version and --, in this order.
 // Ruled out: an option that the command doesn't know taken for one that it knows; an option taken for a file's name.
-pub fn kind_of(word: &[u8], common: &[u8], flags: &[u8], valued: &[u8]) -> Kind
-    ensures { result ≡ kind_of word.now common.now flags.now valued.now }
+pub fn kind_of(word: &[u8], common: &[&[u8]], flags: &[&[u8]], valued: &[&[u8]]) -> Kind
+    ensures { result ≡ kind_of word.now (bytes_of common.now) (bytes_of flags.now) (bytes_of valued.now) }
 {
     if !is_option(word) {
         return Kind::Plain;

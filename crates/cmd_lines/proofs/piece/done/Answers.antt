@@ -1,4 +1,0 @@
-use Rattle.cmd_lines.proofs.piece.done.Goals as goal
-
-pub returns : goal.returns
-returns c = rw c.over.ensures
