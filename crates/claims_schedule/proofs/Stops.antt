@@ -38,9 +38,9 @@ module _ (period : ℕ) (t : List ℕ) (s : Lines) (idle : s.left ≡ 0) where
 
   by_reach : (a : Access) (n : ℕ) (b : Bool) → turn period t s ≡ event_or_stop period s (event.Access a) n (cond b (Some stop.Access) None) → Meets b period t s
   unfolding event_on
-  by_reach a n true is = record { stays = λ h. is; goes_on = λ h. absurd (true≢false h) }
+  by_reach a n true is = record { stays = λ h. is; goes_on = λ h. absurd (true≢false h); number = refl }
   by_reach a n false is =
-      record { stays = λ h. absurd (true≢false (sym h)); goes_on = λ h. ap (λ (r : Turned). r.outcome) is }
+      record { stays = λ h. absurd (true≢false (sym h)); goes_on = λ h. ap (λ (r : Turned). r.outcome) is; number = refl }
 
   meets : (a : Access) (n : ℕ) (b : Bool) → reaches a ≡ b → s.at < length t → parsed (drop s.at t) ≡ Record (event.Access a) n → Meets b period t s
   meets a n b is inside there =
@@ -119,6 +119,7 @@ others period t s rest =
           meeting period t s 0x05 (pins ∷ rxd ∷ a ∷ b ∷ c ∷ d ∷ rest) (Record (Hold pins (not (eqb rxd 0)) ((a * 256 + b) * 65536 + (c * 256 + d))) 7) at
           (rw (some_byte 0x05 (pins ∷ rxd ∷ a ∷ b ∷ c ∷ d ∷ rest), le-ltb (length {A = ℕ} (0x05 ∷ pins ∷ rxd ∷ a ∷ b ∷ c ∷ d ∷ rest)) 7 (omega arith)))
           ∙ past period t s pins (not (eqb rxd 0)) ((a * 256 + b) * 65536 + (c * 256 + d)) 7 over;
+      numbers = (refl, refl, refl);
     }
 
 -- ---- calls

@@ -1,7 +1,7 @@
 -- Document 02, L8: which accesses of a trace stop a replay before them with 3, by width and offset; and what a call is refused for.
 use Rattle.std.specs.Prelude.{◌≡◌, ◌⊎◌, Bool, true, false, cond, ◌&&◌, ◌||◌, List, [], ◌∷◌, ℕ, ◌+◌, ◌-◌, ◌*◌, ◌%◌, ◌^◌, ◌<◌, ◌≤◌, eqb, ltb, leb, length, drop}
 use Rattle.tool_lines.specs.Call.{turned, turn, called}
-use Rattle.tool_lines.specs.Stop.{refusal_of}
+use Rattle.tool_lines.specs.Stop.{number_of, refusal_of}
 use Rattle.tool_lines.specs.declared.line.Outcome.{Outcome}
 use Rattle.tool_lines.specs.declared.line.Outcome.TheVariants.{Nothing, Stopped, Ended, Refused}
 use Rattle.tool_lines.specs.declared.stop.Stop.TheVariants as stop
@@ -36,6 +36,8 @@ stopped_by10 = Stopped stop.ClockLimit
 pub record Meets (stops : Bool) (period : ℕ) (t : List ℕ) (s : Lines) : Type 0 where
   pub stays : stops ≡ true → turn period t s ≡ turned s stopped_by3
   pub goes_on : stops ≡ false → (turn period t s).outcome ≡ Nothing
+  -- This is the number that a host is told.
+  pub number : number_of stop.Access ≡ 3
 
 -- 03: width with bit 7 for supervisor, offset (2).
 abbrev pub Reads : Type 0
@@ -71,6 +73,8 @@ pub record StaysBefore (period : ℕ) (t : List ℕ) (s : Lines) (rest : List �
   pub long_hold_holds :
       (pins rxd a b c d : ℕ) → StandsAt (0x05 ∷ pins ∷ rxd ∷ a ∷ b ∷ c ∷ d ∷ rest) t s →
       2 ^ 64 - 1 < s.device.clock + ((a * 256 + b) * 65536 + (c * 256 + d)) → turn period t s ≡ turned s stopped_by10
+  -- These are the numbers that a host is told.
+  pub numbers : (number_of stop.UnknownKind ≡ 5) × (number_of stop.CutRecord ≡ 6) × (number_of stop.ClockLimit ≡ 10)
 
 abbrev pub Others : Type 0
 Others = (period : ℕ) (t : List ℕ) (s : Lines) (rest : List ℕ) → StaysBefore period t s rest
