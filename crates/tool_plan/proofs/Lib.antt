@@ -6,6 +6,7 @@ pub mod Least
 pub mod Outcome
 pub mod Proposal
 pub mod Planning
+pub mod Told
 pub mod Writing
 pub mod Bytes
 pub mod Loaded

@@ -16,7 +16,7 @@ use Rattle.tool_plan.proofs.Outcome.{given, refused}
 use Rattle.tool_plan.proofs.Proposal.{clock_not_above, proposal_accepted}
 
 -- Where any plan is accepted the proposal is given.
-gives : (s : SetPoints) (window : ℕ) (p : Plan) → accepts s window p ≡ true → planned s window ≡ Some (proposal s)
+pub gives : (s : SetPoints) (window : ℕ) (p : Plan) → accepts s window p ≡ true → planned s window ≡ Some (proposal s)
 gives s window p h =
     given s window (proposal s) ((means s window (proposal s)).1 (proposal_accepted s window p ((means s window p).0 h)))
 

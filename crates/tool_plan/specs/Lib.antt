@@ -2,6 +2,7 @@ pub mod Check
 pub mod Accepted
 pub mod Quickest
 pub mod Laws
+pub mod Told
 pub mod Loading
 pub mod Writes
 pub mod Running

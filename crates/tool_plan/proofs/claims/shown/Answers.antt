@@ -2,6 +2,7 @@ use mathlib.Core.Path.{refl}
 use Rattle.tool_plan.proofs.Meaning.{means}
 use Rattle.tool_plan.proofs.Counts.{counts_agree}
 use Rattle.tool_plan.proofs.Planning.{sound, complete, refuses, least, any_window, revises}
+use Rattle.tool_plan.proofs.Told.{to_hosts}
 use Rattle.tool_plan.proofs.InOrder.{in_order}
 use Rattle.tool_plan.proofs.Doing.{does_what_it_says}
 use Rattle.tool_plan.proofs.Meeting.{example}
@@ -19,6 +20,7 @@ returns c = (
     least = least;
     any_window = any_window;
     revises = revises;
+    to_hosts = to_hosts;
     in_order = in_order;
     does_what_it_says = does_what_it_says;
     example = example;
