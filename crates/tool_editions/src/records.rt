@@ -28,9 +28,9 @@ pub enum Unreadable {
 }
 
 // The kinds of a record, and the bytes of each.
-const ADDED: u8 = 0x21;
+pub const ADDED: u8 = 0x21;
 
-const WITHDRAWN: u8 = 0x22;
+pub const WITHDRAWN: u8 = 0x22;
 
 pub(crate) const ADDED_SIZE: usize = 11;
 
