@@ -76,7 +76,7 @@ impl Reading {
         }
     }
 
-    fn misread(self, fault: Fault, column: u64) -> Misread {
+    fn misread(&self, fault: Fault, column: u64) -> Misread {
         Misread {
             fault,
             line: self.line,
@@ -84,82 +84,81 @@ impl Reading {
         }
     }
 
-    fn moved(mut self) -> Reading {
+    fn moved(&mut self) {
         self.column = self.column.saturating_add(1);
-        self
     }
 
     // A set-point more, unless there are 16.
-    fn added(mut self, select: u8, bits: u8, word: u16) -> Option<Reading> {
+    fn added(&mut self, select: u8, bits: u8, word: u16) -> Result<(), Fault> {
         let at = self.points.count as usize;
         if at >= 16 {
-            return None;
+            return Err(Fault::ManyPoints);
         }
         self.points.selects[at] = select;
         self.points.bits[at] = bits;
         self.points.words[at] = word;
         self.points.count += 1;
         self.given = Given::Point;
-        Some(self)
+        Ok(())
     }
 
     // A word has ended: a select from 0 to 15, bits from 8 to 16, or a word that fits them.
-    fn next(mut self, value: u16) -> Result<Reading, Fault> {
+    fn next(&mut self, value: u16) -> Result<(), Fault> {
         match self.given {
             Given::Nothing => {
                 if value > 15 {
                     return Err(Fault::Select);
                 }
                 self.given = Given::Select(value as u8);
-                Ok(self)
+                Ok(())
             }
             Given::Select(select) => {
                 if value < 8 || value > 16 {
                     return Err(Fault::Bits);
                 }
                 self.given = Given::Bits(select, value as u8);
-                Ok(self)
+                Ok(())
             }
             Given::Bits(select, bits) => {
                 if !fits(bits, value) {
                     return Err(Fault::Word);
                 }
-                self.added(select, bits, value).ok_or(Fault::ManyPoints)
+                self.added(select, bits, value)
             }
             Given::Point => Err(Fault::ManyWords),
         }
     }
 
     // The word under way ends, if there is one.
-    fn ended(mut self) -> Result<Reading, Misread> {
+    fn ended(&mut self) -> Result<(), Misread> {
         let Some(word) = self.word else {
-            return Ok(self);
+            return Ok(());
         };
         self.word = None;
         let Ok(value) = u16::try_from(word.value) else {
             return Err(self.misread(Fault::LargeNumber, word.start));
         };
         match self.next(value) {
-            Ok(r) => Ok(r),
+            Ok(()) => Ok(()),
             Err(fault) => Err(self.misread(fault, word.start)),
         }
     }
 
     // A line has ended: it has three words or none.
-    fn line_ended(self) -> Result<Reading, Misread> {
-        let mut r = self.ended()?;
-        if matches!(r.given, Given::Select(_) | Given::Bits(_, _)) {
-            return Err(r.misread(Fault::FewWords, r.column));
+    fn line_ended(&mut self) -> Result<(), Misread> {
+        self.ended()?;
+        if matches!(self.given, Given::Select(_) | Given::Bits(_, _)) {
+            return Err(self.misread(Fault::FewWords, self.column));
         }
-        r.given = Given::Nothing;
-        r.comment = false;
-        r.line = r.line.saturating_add(1);
-        r.column = 1;
-        Ok(r)
+        self.given = Given::Nothing;
+        self.comment = false;
+        self.line = self.line.saturating_add(1);
+        self.column = 1;
+        Ok(())
     }
 
     // A byte of a word.
-    fn digit_read(mut self, b: u8) -> Result<Reading, Misread> {
+    fn digit_read(&mut self, b: u8) -> Result<(), Misread> {
         let word = self.word.unwrap_or(Word {
             value: 0,
             start: self.column,
@@ -176,34 +175,40 @@ impl Reading {
             value: grown(word.value, base, digit),
             start: word.start,
         });
-        Ok(self.moved())
+        self.moved();
+        Ok(())
     }
 
-    fn step(self, b: u8) -> Result<Reading, Misread> {
-        match b {
-            b'\n' => self.line_ended(),
-            _ if self.comment => Ok(self.moved()),
-            b'#' => {
-                let mut r = self.ended()?;
-                r.comment = true;
-                Ok(r.moved())
-            }
-            b' ' | b'\t' | b',' | b'\r' => Ok(self.ended()?.moved()),
-            _ => self.digit_read(b),
+    fn step(&mut self, b: u8) -> Result<(), Misread> {
+        if b == b'\n' {
+            return self.line_ended();
         }
+        if !self.comment {
+            match b {
+                b'#' => {
+                    self.ended()?;
+                    self.comment = true;
+                }
+                b' ' | b'\t' | b',' | b'\r' => self.ended()?,
+                _ => return self.digit_read(b),
+            }
+        }
+        self.moved();
+        Ok(())
     }
 
     // A part of the text more.
     pub fn taken(self, part: &[u8]) -> Result<Reading, Misread> {
         let mut now = self;
         for b in part {
-            now = now.step(*b)?;
+            now.step(*b)?;
         }
         Ok(now)
     }
 
     // The end of the text ends its last line.
-    pub fn finished(self) -> Result<SetPoints, Misread> {
-        Ok(self.line_ended()?.points)
+    pub fn finished(mut self) -> Result<SetPoints, Misread> {
+        self.line_ended()?;
+        Ok(self.points)
     }
 }
